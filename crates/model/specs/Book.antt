@@ -1,0 +1,51 @@
+-- The book: what document 01 has it hold.
+-- Assumes nothing: these are definitions.
+use mathlib.Core.List.{List, [], _∷_}
+use mathlib.Core.Option.{Option, none, some}
+use Prim.Native.Nat.{ℕ}
+use lib.Dec.{eqb}
+use Rattle.model.specs.Basics.{if_then_else_}
+
+-- a kept pattern: its accident year, its kept factors from age 1 on, its composite
+pub record Kept : Type 0 where
+  pub year : ℕ
+  pub factors : List ℕ
+  pub composite : ℕ
+
+-- a closed year and its closing
+pub record Closed : Type 0 where
+  pub year : ℕ
+  pub closing : ℕ
+
+-- a line: its declared opening (none: not declared), its last closed year, its kept patterns, the latest first
+pub record Line : Type 0 where
+  pub opening : Option ℕ
+  pub closed : Option Closed
+  pub kept : List Kept
+
+-- the book: each year's rate ("given once and stays"), each letter's line, and the counts of accepted and refused records
+pub record Book : Type 0 where
+  pub rates : ℕ → Option ℕ
+  pub lines : ℕ → Line
+  pub accepted : ℕ
+  pub refused : ℕ
+
+-- "An empty book has no line, rate, pattern or closing, and both counts are 0."
+abbrev pub empty : Book
+empty =
+    record {
+      rates = λ year. none;
+      lines = λ letter. record { opening = none; closed = none; kept = [] };
+      accepted = 0;
+      refused = 0;
+    }
+
+-- the last pattern
+abbrev pub latest : List Kept → Option Kept
+latest [] = none
+latest (p ∷ kept) = some p
+
+-- the kept pattern of an accident year
+abbrev pub find : ℕ → List Kept → Option Kept
+find year [] = none
+find year (p ∷ kept) = if eqb year (p .year) then some p else find year kept

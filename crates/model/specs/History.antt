@@ -1,0 +1,135 @@
+-- Document 01, "The list of demand 3": the accepted records of a list, and the terms that come from them.
+-- Assumes nothing: these are definitions.
+use mathlib.Core.Bool.{_&&_}
+use mathlib.Core.List.{List, [], _∷_, _++_}
+use mathlib.Core.Option.{Option, none, some}
+use Prim.Native.Nat.{ℕ}
+use lib.Dec.{eqb}
+use lib.IntN.{ℤ, pos}
+use Rattle.model.specs.Basics.{if_then_else_, total}
+use Rattle.model.specs.Rate.{rateOf}
+use Rattle.model.specs.Pattern.{agesOf}
+use Rattle.model.specs.Tail.{schedule}
+use Rattle.model.specs.Row.{rowsOf}
+use Rattle.model.specs.Book.{Book, Kept, Closed, latest}
+use Rattle.model.specs.YearEnd.{paidTotal}
+use Rattle.model.specs.Call.{Call, declare, setRate, addPattern, closeYear}
+use Rattle.model.specs.Answer.{Answer, declared, rated, fact, tax, refusal}
+use Rattle.model.specs.Question.{firstNo}
+use Rattle.model.specs.Step.{Request, asked, questions, step}
+
+-- an accepted record: the book that it got, what it asked, its answer, the book that it left
+pub record Entry : Type 0 where
+  pub before : Book
+  pub call : Call
+  pub answer : Answer
+  pub later : Book
+
+abbrev pub entry : Book → Request → Entry
+entry book request =
+    record { before = book; call = asked request; answer = step book request .answer; later = step book request .book }
+
+-- a record's entry, if no question refuses it, before those of the later records
+abbrev pub enter : Option ℕ → Entry → List Entry → List Entry
+enter none e later = e ∷ later
+enter (some question) e later = later
+
+-- the accepted records of the list, in order
+unfoldable pub accepted : Book → List Request → List Entry
+accepted book [] = []
+accepted book (request ∷ requests) =
+    enter (firstNo (questions book request)) (entry book request) (accepted (step book request .book) requests)
+
+-- all that f finds in the entries, in order; and the last
+abbrev pub listed : {A : Type 0} → Option A → List A
+listed none = []
+listed (some a) = a ∷ []
+
+abbrev pub gather : {A : Type 0} → (Entry → Option A) → List Entry → List A
+gather f [] = []
+gather f (e ∷ entries) = listed (f e) ++ gather f entries
+
+abbrev pub orElse : {A : Type 0} → Option A → Option A → Option A
+orElse none other = other
+orElse (some a) other = some a
+
+abbrev pub lastOf : {A : Type 0} → (Entry → Option A) → List Entry → Option A
+lastOf f [] = none
+lastOf f (e ∷ entries) = orElse (lastOf f entries) (f e)
+
+-- the rate that a call gives for the year
+abbrev pub rateFrom : ℕ → Call → Option ℕ
+rateFrom y (declare letter opening) = none
+rateFrom y (setRate year months) = if eqb y year then some (rateOf months) else none
+rateFrom y (addPattern letter year paid incurred) = none
+rateFrom y (closeYear letter year paid unpaid tabular) = none
+
+-- the payments by age that a call gives for the letter and the accident year
+abbrev pub paymentsFrom : ℕ → ℕ → Call → Option (List ℕ)
+paymentsFrom l y (declare letter opening) = none
+paymentsFrom l y (setRate year months) = none
+paymentsFrom l y (addPattern letter year paid incurred) = if eqb l letter && eqb y year then some (schedule letter (agesOf paid incurred)) else none
+paymentsFrom l y (closeYear letter year paid unpaid tabular) = none
+
+-- the pattern that the book keeps last after a call that gives one for the letter
+abbrev pub keptFrom : ℕ → Call → Book → Option Kept
+keptFrom l (declare letter opening) later = none
+keptFrom l (setRate year months) later = none
+keptFrom l (addPattern letter year paid incurred) later = if eqb l letter then latest (later .lines letter .kept) else none
+keptFrom l (closeYear letter year paid unpaid tabular) later = none
+
+-- the opening that a call declares for the letter
+abbrev pub openingFrom : ℕ → Call → Option ℕ
+openingFrom l (declare letter opening) = if eqb l letter then some opening else none
+openingFrom l (setRate year months) = none
+openingFrom l (addPattern letter year paid incurred) = none
+openingFrom l (closeYear letter year paid unpaid tabular) = none
+
+-- the paid of all rows of a call that closes a year of the letter; 0 of any other
+abbrev pub paidFrom : ℕ → Call → ℤ
+paidFrom l (declare letter opening) = pos 0
+paidFrom l (setRate year months) = pos 0
+paidFrom l (addPattern letter year paid incurred) = pos 0
+paidFrom l (closeYear letter year paid unpaid tabular) = if eqb l letter then paidTotal (rowsOf paid unpaid tabular) else pos 0
+
+-- the loss, and the year with its closing, that a TAX of the letter answers
+abbrev pub lossFrom : ℕ → Answer → ℤ
+lossFrom l (declared letter opening) = pos 0
+lossFrom l (rated year rate) = pos 0
+lossFrom l (fact letter year factors composite) = pos 0
+lossFrom l (tax letter year paid opening closing loss) = if eqb l letter then loss else pos 0
+lossFrom l (refusal question) = pos 0
+
+abbrev pub closedFrom : ℕ → Answer → Option Closed
+closedFrom l (declared letter opening) = none
+closedFrom l (rated year rate) = none
+closedFrom l (fact letter year factors composite) = none
+closedFrom l (tax letter year paid opening closing loss) = if eqb l letter then some (record { year = year; closing = closing }) else none
+closedFrom l (refusal question) = none
+
+-- "with the rate from that year's RATE": the rates of all accepted RATEs of the year
+unfoldable pub ratesIn : List Entry → ℕ → List ℕ
+ratesIn h y = gather (λ e. rateFrom y (e .call)) h
+
+-- "A pattern and its exact ratios come from the PATT of that letter and accident year": the payments of all accepted PATTs of the letter and the year
+unfoldable pub paymentsIn : List Entry → ℕ → ℕ → List (List ℕ)
+paymentsIn h l y = gather (λ e. paymentsFrom l y (e .call)) h
+
+-- the patterns that the accepted PATTs of the letter had the book keep, in order
+unfoldable pub keptIn : List Entry → ℕ → List Kept
+keptIn h l = gather (λ e. keptFrom l (e .call) (e .later)) h
+
+-- "The declared opening is that of the line's LINE.": the openings of all accepted LINEs of the letter
+unfoldable pub openingsIn : List Entry → ℕ → List ℕ
+openingsIn h l = gather (λ e. openingFrom l (e .call)) h
+
+-- "Their payments are the sum of every paid in these records, prior rows too."
+unfoldable pub paidIn : List Entry → ℕ → ℤ
+paidIn h l = total (λ e. paidFrom l (e .call)) h
+
+-- "Their losses and the last closing are as answered in TAX."
+unfoldable pub lossesIn : List Entry → ℕ → ℤ
+lossesIn h l = total (λ e. lossFrom l (e .answer)) h
+
+unfoldable pub closedIn : List Entry → ℕ → Option Closed
+closedIn h l = lastOf (λ e. closedFrom l (e .answer)) h

@@ -1,0 +1,174 @@
+-- Document 01, "Questions put to a record, in this order". Each definition is a question, under its own words; the tables are below them.
+-- Assumes nothing: these are definitions.
+use mathlib.Core.Bool.{Bool, true, false, not, _&&_, _||_}
+use mathlib.Core.List.{List, [], _∷_, _++_, map}
+use mathlib.Core.Option.{Option, none, some}
+use Prim.Native.Nat.{ℕ, suc, _+_, _-_}
+use lib.Dec.{eqb, leb, ltb}
+use lib.ListN.{length, take, drop}
+use Rattle.model.specs.Basics.{if_then_else_, given, all}
+use Rattle.model.specs.Kind.{isRate, isYear, isOpening, isAmount, isPaid}
+use Rattle.model.specs.Letter.{covered, ages}
+use Rattle.model.specs.Pattern.{Age, agesOf, cumulativeRatio}
+use Rattle.model.specs.Row.{Row, rowsOf, gross}
+use Rattle.model.specs.Book.{Book, Line, Kept, Closed, latest, find}
+use Rattle.model.specs.Call.{Call, declare, setRate, addPattern, closeYear}
+use Rattle.model.specs.Field.{fields, field, letterIn}
+use Rattle.model.specs.Record.{Word, LINE, RATE, PATT, YEAR, OTHER, wordOf, fieldCount, firstNumber, allWritten, callFrom}
+
+-- "1. Has the line at most 1,024 bytes?"
+abbrev pub isShort : List ℕ → Bool
+isShort line = leb (length line) 1024
+
+-- "2. Is the first field, byte for byte, one of the four words?"
+abbrev pub hasWord : Word → Bool
+hasWord LINE = true
+hasWord RATE = true
+hasWord PATT = true
+hasWord YEAR = true
+hasWord OTHER = false
+
+-- "3. But for RATE: is the second field a covered letter? (no second field is a no)"
+abbrev pub hasLetter : Call → Bool
+hasLetter (declare letter opening) = covered letter
+hasLetter (setRate year months) = true
+hasLetter (addPattern letter year paid incurred) = covered letter
+hasLetter (closeYear letter year paid unpaid tabular) = covered letter
+
+-- "4. Is the count of fields right?"
+abbrev pub hasFields : Word → List (List ℕ) → Bool
+hasFields word fs = eqb (length fs) (fieldCount word (letterIn fs))
+
+-- and of a call with numbers, each list's length
+abbrev pub hasLengths : Call → Bool
+hasLengths (declare letter opening) = true
+hasLengths (setRate year months) = eqb (length months) 60
+hasLengths (addPattern letter year paid incurred) = eqb (length paid) (ages letter) && eqb (length incurred) (ages letter)
+hasLengths (closeYear letter year paid unpaid tabular) =
+    eqb (length paid) (suc (ages letter)) && eqb (length unpaid) (suc (ages letter)) && eqb (length tabular) (suc (ages letter))
+
+-- "5. Is every number well written?"
+abbrev pub isWellWritten : Word → List (List ℕ) → Bool
+isWellWritten word fs = allWritten word (firstNumber word) (drop (firstNumber word) fs)
+
+-- "6. Is every number within its limits?"
+abbrev pub isWithinLimits : Call → Bool
+isWithinLimits (declare letter opening) = isOpening opening
+isWithinLimits (setRate year months) = isYear year && all isRate months
+isWithinLimits (addPattern letter year paid incurred) = isYear year && all isAmount paid && all isAmount incurred
+isWithinLimits (closeYear letter year paid unpaid tabular) = isYear year && all isPaid paid && all isAmount unpaid && all isAmount tabular
+
+-- "7. LINE, RATE: is that line or that year's rate still to be given?"
+abbrev pub isToBeGiven : Book → Call → Bool
+isToBeGiven book (declare letter opening) = not (given (book .lines letter .opening))
+isToBeGiven book (setRate year months) = not (given (book .rates year))
+isToBeGiven book (addPattern letter year paid incurred) = true
+isToBeGiven book (closeYear letter year paid unpaid tabular) = true
+
+-- "8. PATT, YEAR: is the line declared?"
+abbrev pub isDeclared : Book → Call → Bool
+isDeclared book (declare letter opening) = true
+isDeclared book (setRate year months) = true
+isDeclared book (addPattern letter year paid incurred) = given (book .lines letter .opening)
+isDeclared book (closeYear letter year paid unpaid tabular) = given (book .lines letter .opening)
+
+-- "9. PATT: has the year a rate?"
+abbrev pub hasRate : Book → Call → Bool
+hasRate book (declare letter opening) = true
+hasRate book (setRate year months) = true
+hasRate book (addPattern letter year paid incurred) = given (book .rates year)
+hasRate book (closeYear letter year paid unpaid tabular) = true
+
+-- "10. PATT: is it the line's first pattern, or the year after its last one, that last one closed if any year is closed?"
+abbrev pub lastIsClosed : Option Closed → ℕ → Bool
+lastIsClosed none last = true
+lastIsClosed (some c) last = eqb (c .year) last
+
+abbrev pub follows : Option Kept → Option Closed → ℕ → Bool
+follows none closed year = true
+follows (some p) closed year = eqb year (suc (p .year)) && lastIsClosed closed (p .year)
+
+-- "YEAR: is it the year of the last pattern, not yet closed?"
+abbrev pub isYearOf : Option Kept → ℕ → Bool
+isYearOf none year = false
+isYearOf (some p) year = eqb year (p .year)
+
+abbrev pub isOpen : Option Closed → ℕ → Bool
+isOpen none year = true
+isOpen (some c) year = not (eqb (c .year) year)
+
+abbrev pub isInTurn : Book → Call → Bool
+isInTurn book (declare letter opening) = true
+isInTurn book (setRate year months) = true
+isInTurn book (addPattern letter year paid incurred) =
+    follows (latest (book .lines letter .kept)) (book .lines letter .closed) year
+isInTurn book (closeYear letter year paid unpaid tabular) =
+    isYearOf (latest (book .lines letter .kept)) year && isOpen (book .lines letter .closed) year
+
+-- "11. PATT: is every incurred above 0 and no paid above its incurred?"
+abbrev pub isCovered : Age → Bool
+isCovered age = ltb 0 (age .incurred) && leb (age .paid) (age .incurred)
+
+abbrev pub hasIncurred : Call → Bool
+hasIncurred (declare letter opening) = true
+hasIncurred (setRate year months) = true
+hasIncurred (addPattern letter year paid incurred) = all isCovered (agesOf paid incurred)
+hasIncurred (closeYear letter year paid unpaid tabular) = true
+
+-- "12. PATT: does no cumulative ratio fall from one age to the next?": from the ratio before on
+abbrev pub climbsFrom : ℕ → List ℕ → Bool
+climbsFrom before [] = true
+climbsFrom before (ratio ∷ ratios) = leb before ratio && climbsFrom ratio ratios
+
+abbrev pub climbs : Call → Bool
+climbs (declare letter opening) = true
+climbs (setRate year months) = true
+climbs (addPattern letter year paid incurred) = climbsFrom 0 (map cumulativeRatio (agesOf paid incurred))
+climbs (closeYear letter year paid unpaid tabular) = true
+
+-- "13. YEAR: has every age row with gross above 0 a kept pattern?": the rows from place k on
+abbrev pub haveKept : List Kept → ℕ → ℕ → List Row → Bool
+haveKept kept year k [] = true
+haveKept kept year k (row ∷ rows) = (eqb (gross row) 0 || given (find (year - k) kept)) && haveKept kept year (suc k) rows
+
+abbrev pub hasPatterns : Book → Call → Bool
+hasPatterns book (declare letter opening) = true
+hasPatterns book (setRate year months) = true
+hasPatterns book (addPattern letter year paid incurred) = true
+hasPatterns book (closeYear letter year paid unpaid tabular) =
+    haveKept (book .lines letter .kept) year 0 (take (ages letter) (rowsOf paid unpaid tabular))
+
+-- questions 1 to 6 of a line of bytes
+unfoldable pub lineQuestions : List ℕ → List (ℕ × Bool)
+lineQuestions line =
+    let fs = fields line in
+    let word = wordOf (field 0 fs) in
+    let call = callFrom word fs in
+    (1, isShort line)
+    ∷ (2, hasWord word)
+    ∷ (3, hasLetter call)
+    ∷ (4, hasFields word fs)
+    ∷ (5, isWellWritten word fs)
+    ∷ (6, isWithinLimits call)
+    ∷ []
+
+-- "Calls with numbers start at 3 (a letter), 4 (a list's length) and 6."
+unfoldable pub callQuestions : Call → List (ℕ × Bool)
+callQuestions call = (3, hasLetter call) ∷ (4, hasLengths call) ∷ (6, isWithinLimits call) ∷ []
+
+-- questions 7 to 13
+unfoldable pub bookQuestions : Book → Call → List (ℕ × Bool)
+bookQuestions book call =
+    (7, isToBeGiven book call)
+    ∷ (8, isDeclared book call)
+    ∷ (9, hasRate book call)
+    ∷ (10, isInTurn book call)
+    ∷ (11, hasIncurred call)
+    ∷ (12, climbs call)
+    ∷ (13, hasPatterns book call)
+    ∷ []
+
+-- the number of the first question whose answer is no
+abbrev pub firstNo : List (ℕ × Bool) → Option ℕ
+firstNo [] = none
+firstNo (q ∷ questions) = if q .1 then firstNo questions else some (q .0)
