@@ -1,0 +1,146 @@
+-- Demand 3, proved of every list of requests from the empty book; and of the lines of every input.
+-- Assumes nothing.
+use mathlib.Core.Path.{_≡_, refl, sym, ap, _∙_}
+use mathlib.Core.Bool.{Bool, true, _&&_}
+use mathlib.Core.List.{List, [], _∷_, _++_, append-assoc, append-nil, reverse}
+use mathlib.Core.Option.{Option, none, some}
+use Prim.Native.Nat.{ℕ}
+use borrow.Author.Tests.{eqb-true}
+use lib.Dec.{eqb}
+use lib.ListN.{length, take}
+use lib.IntN.{ℤ, pos, _+ℤ_, _-ℤ_, +ℤ-negℤ-cancel}
+use Rattle.model.specs.Basics.{Every}
+use Rattle.model.specs.Letter.{ages}
+use Rattle.model.specs.Book.{Book, Line, Closed, latest, empty}
+use Rattle.model.specs.Call.{Call, declare, setRate, addPattern, closeYear}
+use Rattle.model.specs.Field.{fields, field}
+use Rattle.model.specs.Record.{wordOf}
+use Rattle.model.specs.Question.{hasLengths, isToBeGiven, isDeclared, hasRate, isInTurn, hasPatterns, isYearOf, isOpen, lineQuestions, callQuestions, bookQuestions, firstNo}
+use Rattle.model.specs.Step.{Request, asBytes, asNumbers, asked, questions, refuse, accept, settle, step}
+use Rattle.model.specs.Run.{after, recordsOf}
+use Rattle.model.specs.History.{Entry, entry, enter, accepted, listed, ratesIn, paymentsIn, keptIn, openingsIn, paidIn, lossesIn, closedIn}
+use Rattle.model.specs.Demand.{LossesAddUp, Demand}
+use Rattle.model.proofs.Lists.{some≢none, cons≢nil, all-yes, every-right, and-left, and-right}
+use Rattle.model.proofs.Lengths.{lengths-right}
+use Rattle.model.proofs.Ages.{length-ages-of}
+use Rattle.model.proofs.Entries.{with}
+use Rattle.model.proofs.Invariant.{LineHolds, Invariant}
+use Rattle.model.proofs.AcceptLine.{accept-line}
+use Rattle.model.proofs.AcceptRate.{accept-rate}
+use Rattle.model.proofs.AcceptPattern.{accept-pattern}
+use Rattle.model.proofs.AcceptYear.{accept-year}
+
+-- what an accepted call has passed, of what the invariant needs
+record Passed (book : Book) (call : Call) : Type 0 where
+  lengths : hasLengths call ≡ true
+  to-be-given : isToBeGiven book call ≡ true
+  is-declared : isDeclared book call ≡ true
+  has-rate : hasRate book call ≡ true
+  in-turn : isInTurn book call ≡ true
+  has-patterns : hasPatterns book call ≡ true
+
+abbrev AllYes : List (ℕ × Bool) → Type 0
+AllYes qs = Every (λ q. q .1 ≡ true) qs
+
+from-book : (book : Book) (call : Call) → hasLengths call ≡ true → AllYes (bookQuestions book call) → Passed book call
+unfolding bookQuestions
+from-book book call l y =
+    record { lengths = l; to-be-given = y .0; is-declared = y .1 .0; has-rate = y .1 .1 .0; in-turn = y .1 .1 .1 .0; has-patterns = y .1 .1 .1 .1 .1 .1 .0 }
+
+call-lengths : (call : Call) (rest : List (ℕ × Bool)) → AllYes (callQuestions call ++ rest) → hasLengths call ≡ true
+unfolding callQuestions
+call-lengths call rest y = y .1 .0
+
+passed : (book : Book) (request : Request) → AllYes (questions book request) → Passed book (asked request)
+unfolding questions
+passed book (asBytes line) y =
+    let fs : List (List ℕ) = fields line in
+    from-book book _ (lengths-right (wordOf (field 0 fs)) fs) (every-right (λ q. q .1 ≡ true) (lineQuestions line) _ y)
+passed book (asNumbers call) y =
+    from-book book call (call-lengths call _ y) (every-right (λ q. q .1 ≡ true) (callQuestions call) _ y)
+
+-- an accepted call, and a refused one
+abbrev made-entry : Book → Call → Entry
+made-entry book call = record { before = book; call = call; answer = accept book call .answer; later = accept book call .book }
+
+accept-holds : (h : List Entry) (b : Book) (call : Call) → Invariant h b → Passed b call → Invariant (with h (made-entry b call)) (accept b call .book)
+unfolding accept
+accept-holds h b (declare letter amount) i p = accept-line h b letter amount i (p .to-be-given)
+accept-holds h b (setRate year months) i p = accept-rate h b year months i (p .to-be-given)
+accept-holds h b (addPattern letter year paid incurred) i p =
+    let n : Bool = eqb (length paid) (ages letter) in
+    let m : Bool = eqb (length incurred) (ages letter) in
+    accept-pattern h b letter year paid incurred i
+    (length-ages-of (ages letter) paid incurred (eqb-true _ _ (and-left n m (p .lengths))) (eqb-true _ _ (and-right n m (p .lengths))))
+    (p .is-declared) (p .has-rate) (p .in-turn)
+accept-holds h b (closeYear letter year paid unpaid tabular) i p =
+    accept-year h b letter year paid unpaid tabular i (p .is-declared) (and-left (isYearOf (latest (b .lines letter .kept)) year) (isOpen (b .lines letter .closed) year) (p .in-turn)) (p .has-patterns)
+
+refuse-holds : (h : List Entry) (b : Book) (question : ℕ) → Invariant h b → Invariant h (refuse b question .book)
+unfolding refuse
+refuse-holds h b question i = record { rates = i .rates; lines = i .lines; entries = i .entries }
+
+-- a request's step, by its first no
+pub step-is : (b : Book) (r : Request) (q : Option ℕ) → firstNo (questions b r) ≡ q → step b r ≡ settle q b (asked r)
+unfolding step
+step-is b r q e = rw e
+
+-- the list, a request at a time: what holds of the entries so far holds of them with those of the rest
+one : (h : List Entry) (b : Book) (r : Request) (rs : List Request) → Invariant h b → ((h : List Entry) (b : Book) → Invariant h b → Invariant (h ++ accepted b rs) (after b rs))
+    → (q : Option ℕ) → firstNo (questions b r) ≡ q → Invariant (h ++ enter q (entry b r) (accepted (step b r .book) rs)) (after (step b r .book) rs)
+one h b r rs i rest none e =
+    let later : Invariant (with h (entry b r)) (step b r .book) = rw (step-is b r none e) (accept-holds h b (asked r) i (passed b r (all-yes (questions b r) e))) in
+    rw append-assoc at (rest (with h (entry b r)) (step b r .book) later)
+one h b r rs i rest (some question) e = rest h (step b r .book) (rw (step-is b r (some question) e) (refuse-holds h b question i))
+
+all : (rs : List Request) (h : List Entry) (b : Book) → Invariant h b → Invariant (h ++ accepted b rs) (after b rs)
+unfolding accepted after
+all [] h b i = rw append-nil i
+all (r ∷ rs) h b i = one h b r rs i (all rs) (firstNo (questions b r)) refl
+
+-- the empty book and no entries
+no-line : (letter : ℕ) → LineHolds [] letter (empty .lines letter)
+unfolding openingsIn closedIn keptIn paymentsIn lossesIn paidIn ages
+no-line letter =
+    record {
+      declared = refl;
+      closed = refl;
+      kept = sym (lib.Seq.take-nil (ages letter));
+      unclosed = λ u. refl;
+      unkept = λ u. refl;
+      patterns = tt;
+      newest = λ year pay more s. absurd (cons≢nil pay more (sym s));
+      balance = refl;
+    }
+
+none-yet : Invariant [] empty
+unfolding ratesIn
+none-yet = record { rates = λ year. refl; lines = no-line; entries = tt }
+
+-- the losses, from the invariant's balance
+losses-add-up : (h : List Entry) (letter : ℕ) (line : Line) (o : Option ℕ) (last : Closed) → line .opening ≡ o → LineHolds h letter line → closedIn h letter ≡ some last → LossesAddUp h letter (last .closing)
+losses-add-up h letter line none last e l s = absurd (some≢none last (sym s ∙ sym (l .closed) ∙ l .unclosed e))
+losses-add-up h letter line (some declared) last e l s =
+    let c : line .closed ≡ some last = l .closed ∙ s in
+    let w : lossesIn h letter +ℤ pos declared ≡ paidIn h letter +ℤ pos (last .closing) = rw (e, c) at (l .balance) in
+    record {
+      declared = declared;
+      from-line = l .declared ∙ ap listed e;
+      add-up = sym (+ℤ-negℤ-cancel (lossesIn h letter) (pos declared)) ∙ ap (λ (x : ℤ). x -ℤ pos declared) w;
+    }
+
+pub demand : (requests : List Request) → Demand requests
+demand requests =
+    let h = accepted empty requests in
+    let b = after empty requests in
+    let i = all requests [] empty none-yet in
+    record {
+      entries = i .entries;
+      kept = λ letter. i .lines letter .kept;
+      losses = λ letter last s. losses-add-up h letter (b .lines letter) (b .lines letter .opening) last refl (i .lines letter) s;
+      closed = λ letter. i .lines letter .closed;
+    }
+
+-- the records of any input
+pub demand-of-input : (input : List ℕ) → Demand (recordsOf input)
+demand-of-input input = demand (recordsOf input)

@@ -1,0 +1,133 @@
+-- The terms of demand 3 with one accepted record more.
+-- Assumes nothing.
+use mathlib.Core.Path.{_≡_, refl, sym}
+use mathlib.Core.List.{List, [], _∷_, _++_, append-assoc, append-nil}
+use mathlib.Core.Logic.{⊎-elim}
+use mathlib.Core.Option.{Option, none, some}
+use Prim.Native.Nat.{ℕ, _<_}
+use native.Mathlib.Nat.{eq-zero-or-pos}
+use lib.IntN.{ℤ, pos, _+ℤ_, +ℤ-assoc, +ℤ-idl, +ℤ-idr}
+use mathlib.Core.Path.{_∙_}
+use Rattle.model.specs.Basics.{total}
+use Rattle.model.specs.Row.{Row, rowsOf, gross}
+use Rattle.model.specs.Book.{Book, Kept, Line}
+use Rattle.model.specs.YearEnd.{discountedRow}
+use Rattle.model.specs.Call.{Call, declare, setRate, addPattern, closeYear}
+use Rattle.model.specs.Answer.{Answer}
+use Rattle.model.specs.History.{Entry, listed, gather, orElse, lastOf, rateFrom, paymentsFrom, keptFrom, openingFrom, paidFrom, lossFrom, closedFrom, ratesIn, paymentsIn, keptIn, openingsIn, paidIn, lossesIn, closedIn}
+use Rattle.model.specs.Demand.{Given, PatternHolds, RowHolds, EntryHolds, rowYear, rowExact}
+use Rattle.model.proofs.Lists.{only, every-at-map}
+use Rattle.model.proofs.RowBound.{nothing-near}
+
+or-assoc : {A : Type 0} (a b c : Option A) → orElse a (orElse b c) ≡ orElse (orElse a b) c
+or-assoc none b c = refl
+or-assoc (some a) b c = refl
+
+or-none : {A : Type 0} (a : Option A) → orElse a none ≡ a
+or-none none = refl
+or-none (some a) = refl
+
+gather-snoc : {A : Type 0} (f : Entry → Option A) (h : List Entry) (e : Entry) → gather f (h ++ (e ∷ [])) ≡ gather f h ++ listed (f e)
+gather-snoc f [] e = append-nil (listed (f e))
+gather-snoc f (x ∷ h) e = rw (gather-snoc f h e) (sym (append-assoc (listed (f x)) (gather f h) (listed (f e))))
+
+last-snoc : {A : Type 0} (f : Entry → Option A) (h : List Entry) (e : Entry) → lastOf f (h ++ (e ∷ [])) ≡ orElse (f e) (lastOf f h)
+last-snoc f [] e = sym (or-none (f e))
+last-snoc f (x ∷ h) e = rw (last-snoc f h e) (sym (or-assoc (f e) (lastOf f h) (f x)))
+
+total-snoc : (f : Entry → ℤ) (h : List Entry) (e : Entry) → total f (h ++ (e ∷ [])) ≡ total f h +ℤ f e
+total-snoc f [] e = +ℤ-idr (f e) ∙ sym (+ℤ-idl (f e))
+total-snoc f (x ∷ h) e = rw (total-snoc f h e) (sym (+ℤ-assoc (f x) (total f h) (f e)))
+
+-- one entry more
+abbrev pub with : List Entry → Entry → List Entry
+with h e = h ++ (e ∷ [])
+
+module _ (h : List Entry) (e : Entry) where
+  pub rates-with : (year : ℕ) → ratesIn (with h e) year ≡ ratesIn h year ++ listed (rateFrom year (e .call))
+  unfolding ratesIn
+  rates-with year = gather-snoc (λ x. rateFrom year (x .call)) h e
+
+  pub payments-with : (letter year : ℕ) → paymentsIn (with h e) letter year ≡ paymentsIn h letter year ++ listed (paymentsFrom letter year (e .call))
+  unfolding paymentsIn
+  payments-with letter year = gather-snoc (λ x. paymentsFrom letter year (x .call)) h e
+
+  pub kept-with : (letter : ℕ) → keptIn (with h e) letter ≡ keptIn h letter ++ listed (keptFrom letter (e .call) (e .later))
+  unfolding keptIn
+  kept-with letter = gather-snoc (λ x. keptFrom letter (x .call) (x .later)) h e
+
+  pub openings-with : (letter : ℕ) → openingsIn (with h e) letter ≡ openingsIn h letter ++ listed (openingFrom letter (e .call))
+  unfolding openingsIn
+  openings-with letter = gather-snoc (λ x. openingFrom letter (x .call)) h e
+
+  pub closed-with : (letter : ℕ) → closedIn (with h e) letter ≡ orElse (closedFrom letter (e .answer)) (closedIn h letter)
+  unfolding closedIn
+  closed-with letter = last-snoc (λ x. closedFrom letter (x .answer)) h e
+
+  pub losses-with : (letter : ℕ) → lossesIn (with h e) letter ≡ lossesIn h letter +ℤ lossFrom letter (e .answer)
+  unfolding lossesIn
+  losses-with letter = total-snoc (λ x. lossFrom letter (x .answer)) h e
+
+  pub paid-with : (letter : ℕ) → paidIn (with h e) letter ≡ paidIn h letter +ℤ paidFrom letter (e .call)
+  unfolding paidIn
+  paid-with letter = total-snoc (λ x. paidFrom letter (x .call)) h e
+
+-- the entry gives no rate and no pattern that the entries have already
+pub record Fresh (h : List Entry) (e : Entry) : Type 0 where
+  pub rates : (year rate : ℕ) → ratesIn h year ≡ rate ∷ [] → rateFrom year (e .call) ≡ none
+  pub patterns : (letter year : ℕ) (pay : List ℕ) → paymentsIn h letter year ≡ pay ∷ [] → paymentsFrom letter year (e .call) ≡ none
+
+-- what holds of an accepted record still holds with a fresh one more
+module _ (h : List Entry) (e : Entry) (fresh : Fresh h e) where
+  pub given-with : (letter year rate : ℕ) (pay : List ℕ) → Given h letter year rate pay → Given (with h e) letter year rate pay
+  given-with letter year rate pay g =
+      record {
+        from-rate = rw (rates-with h e year, fresh .rates year rate (g .from-rate), g .from-rate);
+        from-pattern = rw (payments-with h e letter year, fresh .patterns letter year pay (g .from-pattern), g .from-pattern);
+      }
+
+  pattern-with : (line : Line) (letter year : ℕ) → PatternHolds h line letter year → PatternHolds (with h e) line letter year
+  pattern-with line letter year p =
+      record {
+        rate = p .rate;
+        pay = p .pay;
+        source = given-with letter year (p .rate) (p .pay) (p .source);
+        pattern = p .pattern;
+        keeps = p .keeps;
+        of-year = p .of-year;
+        count = p .count;
+        kept-near = p .kept-near;
+        worked-near = p .worked-near;
+        composite-near = p .composite-near;
+      }
+
+  row-with : (letter year k : ℕ) (row : Row) (d : ℕ) → RowHolds h letter year k row d → RowHolds (with h e) letter year k row d
+  row-with letter year k row d r =
+      record {
+        has = λ g. let s = r .has g in (s .0, s .1, given-with letter (rowYear letter year k) (s .0) (s .1) (s .2));
+        nothing = r .nothing;
+        near = λ rate pay g u. ⊎-elim
+            (λ (z : gross row ≡ 0). nothing-near rate (rowExact letter rate k pay) row d z (r .nothing z))
+            (λ (l : 0 < gross row).
+            let s = r .has l in
+            let m = given-with letter (rowYear letter year k) (s .0) (s .1) (s .2) in
+            let er : rate ≡ s .0 = only rate (s .0) (g .from-rate) (m .from-rate) in
+            let ep : pay ≡ s .1 = only pay (s .1) (g .from-pattern) (m .from-pattern) in
+            rw (er, ep) (r .near (s .0) (s .1) (s .2) (rw ep at u)))
+            (eq-zero-or-pos (gross row));
+      }
+
+  pub entry-with : (before : Book) (answer : Answer) (later : Book) (call : Call) → EntryHolds h before answer later call → EntryHolds (with h e) before answer later call
+  entry-with before answer later (declare letter opening) n = tt
+  entry-with before answer later (setRate year months) n = tt
+  entry-with before answer later (addPattern letter year paid incurred) n = pattern-with (later .lines letter) letter year n
+  entry-with before answer later (closeYear letter year paid unpaid tabular) n =
+      let line : Line = before .lines letter in
+      record {
+        answered = n .answered;
+        each = every-at-map
+            (λ k row. RowHolds h letter year k row (discountedRow letter line year k row))
+            (λ k row. RowHolds (with h e) letter year k row (discountedRow letter line year k row))
+            (λ k row. row-with letter year k row (discountedRow letter line year k row))
+            0 (rowsOf paid unpaid tabular) (n .each);
+      }

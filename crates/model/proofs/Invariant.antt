@@ -1,0 +1,100 @@
+-- What ties the book to the accepted records so far, and that a record of another line leaves a line's part of it standing.
+-- Assumes nothing.
+use mathlib.Core.Path.{_≡_}
+use mathlib.Core.List.{List, [], _∷_, _++_, reverse, append-nil}
+use mathlib.Core.Option.{Option, none, some}
+use Prim.Native.Nat.{ℕ, _≤_}
+use lib.ListN.{take}
+use lib.IntN.{pos, _+ℤ_, +ℤ-idr}
+use Rattle.model.specs.Basics.{orDefault, Every}
+use Rattle.model.specs.Letter.{ages}
+use Rattle.model.specs.Factor.{keptFactors}
+use Rattle.model.specs.Composite.{composite}
+use Rattle.model.specs.Book.{Book, Line, Kept, latest}
+use Rattle.model.specs.YearEnd.{opening}
+use Rattle.model.specs.History.{Entry, listed, rateFrom, paymentsFrom, keptFrom, openingFrom, paidFrom, lossFrom, closedFrom, ratesIn, paymentsIn, keptIn, openingsIn, paidIn, lossesIn, closedIn}
+use Rattle.model.specs.Demand.{Given, EntryHolds}
+use Rattle.model.proofs.Lists.{every-map, every-snoc}
+use Rattle.model.proofs.Ages.{Sized}
+use Rattle.model.proofs.Entries.{with, rates-with, payments-with, kept-with, openings-with, closed-with, losses-with, paid-with, Fresh, given-with, entry-with}
+
+-- a kept pattern is made from the entries
+pub record Made (h : List Entry) (letter : ℕ) (p : Kept) : Type 0 where
+  pub rate : ℕ
+  pub pay : List ℕ
+  pub source : Given h letter (p .year) rate pay
+  pub sized : Sized letter pay
+  pub factors-are : p .factors ≡ keptFactors letter rate pay
+  pub composite-is : p .composite ≡ composite letter rate pay
+
+-- the last kept pattern is of that year or of a later one
+pub record Reached (last : Option Kept) (year : ℕ) : Type 0 where
+  pub pattern : Kept
+  pub is : last ≡ some pattern
+  pub by : year ≤ pattern .year
+
+pub record LineHolds (h : List Entry) (letter : ℕ) (line : Line) : Type 0 where
+  pub declared : openingsIn h letter ≡ listed (line .opening)
+  pub closed : line .closed ≡ closedIn h letter
+  pub kept : line .kept ≡ take (ages letter) (reverse (keptIn h letter))
+  pub unclosed : line .opening ≡ none → line .closed ≡ none
+  pub unkept : line .opening ≡ none → line .kept ≡ []
+  pub patterns : Every (Made h letter) (line .kept)
+  pub newest : (year : ℕ) (pay : List ℕ) (more : List (List ℕ)) → paymentsIn h letter year ≡ pay ∷ more → Reached (latest (line .kept)) year
+  pub balance : lossesIn h letter +ℤ pos (orDefault (line .opening) 0) ≡ paidIn h letter +ℤ pos (opening line)
+
+abbrev pub Holding : List Entry → Entry → Type 0
+Holding h e = EntryHolds h (e .before) (e .answer) (e .later) (e .call)
+
+pub record Invariant (h : List Entry) (b : Book) : Type 0 where
+  pub rates : (year : ℕ) → ratesIn h year ≡ listed (b .rates year)
+  pub lines : (letter : ℕ) → LineHolds h letter (b .lines letter)
+  pub entries : Every (Holding h) h
+
+-- an entry that says nothing of the line
+pub record Aside (e : Entry) (letter : ℕ) : Type 0 where
+  pub no-opening : openingFrom letter (e .call) ≡ none
+  pub no-closing : closedFrom letter (e .answer) ≡ none
+  pub no-payments : (year : ℕ) → paymentsFrom letter year (e .call) ≡ none
+  pub no-kept : keptFrom letter (e .call) (e .later) ≡ none
+  pub no-loss : lossFrom letter (e .answer) ≡ pos 0
+  pub no-paid : paidFrom letter (e .call) ≡ pos 0
+
+module _ (h : List Entry) (e : Entry) (fresh : Fresh h e) where
+  pub made-with : (letter : ℕ) (p : Kept) → Made h letter p → Made (with h e) letter p
+  made-with letter p m =
+      record {
+        rate = m .rate;
+        pay = m .pay;
+        source = given-with h e fresh letter (p .year) (m .rate) (m .pay) (m .source);
+        sized = m .sized;
+        factors-are = m .factors-are;
+        composite-is = m .composite-is;
+      }
+
+  pub all-made-with : (letter : ℕ) (kept : List Kept) → Every (Made h letter) kept → Every (Made (with h e) letter) kept
+  all-made-with letter kept all = every-map (Made h letter) (Made (with h e) letter) (made-with letter) kept all
+
+  pub aside : (letter : ℕ) (line : Line) → Aside e letter → LineHolds h letter line → LineHolds (with h e) letter line
+  aside letter line a l =
+      record {
+        declared = rw (openings-with h e letter, a .no-opening, append-nil (openingsIn h letter)) (l .declared);
+        closed = rw (closed-with h e letter, a .no-closing) (l .closed);
+        kept = rw (kept-with h e letter, a .no-kept, append-nil (keptIn h letter)) (l .kept);
+        unclosed = l .unclosed;
+        unkept = l .unkept;
+        patterns = all-made-with letter (line .kept) (l .patterns);
+        newest = λ year pay more s. l .newest year pay more (rw (payments-with h e letter year, a .no-payments year, append-nil (paymentsIn h letter year)) at s);
+        balance = rw (losses-with h e letter, paid-with h e letter, a .no-loss, a .no-paid, +ℤ-idr (lossesIn h letter), +ℤ-idr (paidIn h letter)) (l .balance);
+      }
+
+  -- the earlier entries, and the new one
+  pub entries-with : Every (Holding h) h → Holding (with h e) e → Every (Holding (with h e)) (with h e)
+  entries-with all n =
+      every-snoc (Holding (with h e)) h e
+      (every-map (Holding h) (Holding (with h e)) (λ x. entry-with h e fresh (x .before) (x .answer) (x .later) (x .call)) h all)
+      n
+
+-- an entry that gives no rate
+pub rates-as : (h : List Entry) (b : Book) (e : Entry) → Invariant h b → ((year : ℕ) → rateFrom year (e .call) ≡ none) → (year : ℕ) → ratesIn (with h e) year ≡ listed (b .rates year)
+rates-as h b e i n year = rw (rates-with h e year, n year, append-nil (ratesIn h year)) (i .rates year)
