@@ -8,20 +8,19 @@ use Prim.Native.Nat.{ℕ}
 use borrow.Author.Tests.{eqb-true}
 use lib.Dec.{eqb}
 use lib.ListN.{length, take}
+use lib.Seq.{take-nil}
 use lib.IntN.{ℤ, pos, _+ℤ_, _-ℤ_, +ℤ-negℤ-cancel}
-use Rattle.model.specs.Basics.{Every}
 use Rattle.model.specs.Letter.{ages}
 use Rattle.model.specs.Book.{Book, Line, Closed, latest, empty}
 use Rattle.model.specs.Call.{Call, declare, setRate, addPattern, closeYear}
-use Rattle.model.specs.Field.{fields, field}
-use Rattle.model.specs.Record.{wordOf}
-use Rattle.model.specs.Question.{hasLengths, isToBeGiven, isDeclared, hasRate, isInTurn, hasPatterns, isYearOf, isOpen, lineQuestions, callQuestions, bookQuestions, firstNo}
-use Rattle.model.specs.Step.{Request, asBytes, asNumbers, asked, questions, refuse, accept, settle, step}
+use Rattle.model.specs.Question.{isYearOf, isOpen, firstNo}
+use Rattle.model.specs.Step.{Request, asked, questions, refuse, accept, step}
 use Rattle.model.specs.Run.{after, recordsOf}
 use Rattle.model.specs.History.{Entry, entry, enter, accepted, listed, ratesIn, paymentsIn, keptIn, openingsIn, paidIn, lossesIn, closedIn}
 use Rattle.model.specs.Demand.{LossesAddUp, Demand}
-use Rattle.model.proofs.Lists.{some≢none, cons≢nil, all-yes, every-right, and-left, and-right}
-use Rattle.model.proofs.Lengths.{lengths-right}
+use Rattle.model.proofs.Lists.{some≢none, cons≢nil, and-left, and-right}
+use Rattle.model.proofs.Steps.{step-is}
+use Rattle.model.proofs.Passed.{Passed, passed}
 use Rattle.model.proofs.Ages.{length-ages-of}
 use Rattle.model.proofs.Entries.{with}
 use Rattle.model.proofs.Invariant.{LineHolds, Invariant}
@@ -29,35 +28,6 @@ use Rattle.model.proofs.AcceptLine.{accept-line}
 use Rattle.model.proofs.AcceptRate.{accept-rate}
 use Rattle.model.proofs.AcceptPattern.{accept-pattern}
 use Rattle.model.proofs.AcceptYear.{accept-year}
-
--- what an accepted call has passed, of what the invariant needs
-record Passed (book : Book) (call : Call) : Type 0 where
-  lengths : hasLengths call ≡ true
-  to-be-given : isToBeGiven book call ≡ true
-  is-declared : isDeclared book call ≡ true
-  has-rate : hasRate book call ≡ true
-  in-turn : isInTurn book call ≡ true
-  has-patterns : hasPatterns book call ≡ true
-
-abbrev AllYes : List (ℕ × Bool) → Type 0
-AllYes qs = Every (λ q. q .1 ≡ true) qs
-
-from-book : (book : Book) (call : Call) → hasLengths call ≡ true → AllYes (bookQuestions book call) → Passed book call
-unfolding bookQuestions
-from-book book call l y =
-    record { lengths = l; to-be-given = y .0; is-declared = y .1 .0; has-rate = y .1 .1 .0; in-turn = y .1 .1 .1 .0; has-patterns = y .1 .1 .1 .1 .1 .1 .0 }
-
-call-lengths : (call : Call) (rest : List (ℕ × Bool)) → AllYes (callQuestions call ++ rest) → hasLengths call ≡ true
-unfolding callQuestions
-call-lengths call rest y = y .1 .0
-
-passed : (book : Book) (request : Request) → AllYes (questions book request) → Passed book (asked request)
-unfolding questions
-passed book (asBytes line) y =
-    let fs : List (List ℕ) = fields line in
-    from-book book _ (lengths-right (wordOf (field 0 fs)) fs) (every-right (λ q. q .1 ≡ true) (lineQuestions line) _ y)
-passed book (asNumbers call) y =
-    from-book book call (call-lengths call _ y) (every-right (λ q. q .1 ≡ true) (callQuestions call) _ y)
 
 -- an accepted call, and a refused one
 abbrev made-entry : Book → Call → Entry
@@ -72,24 +42,19 @@ accept-holds h b (addPattern letter year paid incurred) i p =
     let m : Bool = eqb (length incurred) (ages letter) in
     accept-pattern h b letter year paid incurred i
     (length-ages-of (ages letter) paid incurred (eqb-true _ _ (and-left n m (p .lengths))) (eqb-true _ _ (and-right n m (p .lengths))))
-    (p .is-declared) (p .has-rate) (p .in-turn)
+    (p .declared) (p .rate) (p .turn)
 accept-holds h b (closeYear letter year paid unpaid tabular) i p =
-    accept-year h b letter year paid unpaid tabular i (p .is-declared) (and-left (isYearOf (latest (b .lines letter .kept)) year) (isOpen (b .lines letter .closed) year) (p .in-turn)) (p .has-patterns)
+    accept-year h b letter year paid unpaid tabular i (p .declared) (and-left (isYearOf (latest (b .lines letter .kept)) year) (isOpen (b .lines letter .closed) year) (p .turn)) (p .patterns)
 
 refuse-holds : (h : List Entry) (b : Book) (question : ℕ) → Invariant h b → Invariant h (refuse b question .book)
 unfolding refuse
 refuse-holds h b question i = record { rates = i .rates; lines = i .lines; entries = i .entries }
 
--- a request's step, by its first no
-pub step-is : (b : Book) (r : Request) (q : Option ℕ) → firstNo (questions b r) ≡ q → step b r ≡ settle q b (asked r)
-unfolding step
-step-is b r q e = rw e
-
 -- the list, a request at a time: what holds of the entries so far holds of them with those of the rest
 one : (h : List Entry) (b : Book) (r : Request) (rs : List Request) → Invariant h b → ((h : List Entry) (b : Book) → Invariant h b → Invariant (h ++ accepted b rs) (after b rs))
     → (q : Option ℕ) → firstNo (questions b r) ≡ q → Invariant (h ++ enter q (entry b r) (accepted (step b r .book) rs)) (after (step b r .book) rs)
 one h b r rs i rest none e =
-    let later : Invariant (with h (entry b r)) (step b r .book) = rw (step-is b r none e) (accept-holds h b (asked r) i (passed b r (all-yes (questions b r) e))) in
+    let later : Invariant (with h (entry b r)) (step b r .book) = rw (step-is b r none e) (accept-holds h b (asked r) i (passed b r e)) in
     rw append-assoc at (rest (with h (entry b r)) (step b r .book) later)
 one h b r rs i rest (some question) e = rest h (step b r .book) (rw (step-is b r (some question) e) (refuse-holds h b question i))
 
@@ -105,7 +70,7 @@ no-line letter =
     record {
       declared = refl;
       closed = refl;
-      kept = sym (lib.Seq.take-nil (ages letter));
+      kept = sym (take-nil (ages letter));
       unclosed = λ u. refl;
       unkept = λ u. refl;
       patterns = tt;

@@ -4,6 +4,7 @@ pub mod AcceptRate
 pub mod AcceptYear
 pub mod Ages
 pub mod CompositeBounds
+pub mod Decimal
 pub mod Demand
 pub mod Entries
 pub mod Exact
@@ -14,7 +15,10 @@ pub mod Invariant
 pub mod Lengths
 pub mod Lists
 pub mod Near
+pub mod Passed
 pub mod RowBound
 pub mod Rows
 pub mod Sample
+pub mod Sharp
+pub mod Steps
 pub mod Unpaid

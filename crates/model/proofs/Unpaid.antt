@@ -13,7 +13,7 @@ use Rattle.model.specs.Basics.{if_then_else_, all, lastOr, sum}
 use Rattle.model.specs.Letter.{tenYear}
 use Rattle.model.specs.Pattern.{Age, cumulativeRatio, cumulative, payments, unpaid, whole}
 use Rattle.model.specs.Tail.{capped, tenYearTail, twoYearTail, schedule}
-use Rattle.model.specs.Question.{isCovered, climbsFrom}
+use Rattle.model.specs.Question.{isIncurred, climbsFrom}
 use Rattle.model.specs.Demand.{unpaidAt}
 use Rattle.model.proofs.Lists.{and-left, and-right, sum-append}
 
@@ -49,7 +49,7 @@ after-age b (a ∷ given) t (suc k) d lt q =
     after-age (cumulativeRatio a) given t k d (omega arith) (and-right (leb b (cumulativeRatio a)) rest q)
 
 -- a ratio is at most a whole
-ratio-small : (a : Age) → isCovered a ≡ true → cumulativeRatio a ≤ 100000000
+ratio-small : (a : Age) → isIncurred a ≡ true → cumulativeRatio a ≤ 100000000
 unfolding cumulativeRatio
 ratio-small a q =
     let i : 0 < a .incurred = ltb-true _ _ (and-left (ltb 0 (a .incurred)) (leb (a .paid) (a .incurred)) q) in
@@ -64,12 +64,12 @@ record Half (n : ℕ) : Type 0 where
   is : n ≡ 2 * half
   small : half ≤ 100000000
 
-last-half : (b : ℕ) (given : List Age) → b ≤ 100000000 → all isCovered given ≡ true → Half (lastOr (2 * b) (map cumulative given))
+last-half : (b : ℕ) (given : List Age) → b ≤ 100000000 → all isIncurred given ≡ true → Half (lastOr (2 * b) (map cumulative given))
 last-half b [] le q = record { half = b; is = refl; small = le }
 last-half b (a ∷ given) le q =
-    last-half (cumulativeRatio a) given (ratio-small a (and-left (isCovered a) (all isCovered given) q)) (and-right (isCovered a) (all isCovered given) q)
+    last-half (cumulativeRatio a) given (ratio-small a (and-left (isIncurred a) (all isIncurred given) q)) (and-right (isIncurred a) (all isIncurred given) q)
 
-module _ (letter : ℕ) (given : List Age) (q11 : all isCovered given ≡ true) (q12 : climbsFrom 0 (map cumulativeRatio given) ≡ true) where
+module _ (letter : ℕ) (given : List Age) (q11 : all isIncurred given ≡ true) (q12 : climbsFrom 0 (map cumulativeRatio given) ≡ true) where
   abbrev cumulatives : List ℕ
   cumulatives = map cumulative given
 

@@ -42,7 +42,8 @@ integer (b ∷ digits) = if eqb b minus then negℤ (pos (natural digits)) else 
 unfoldable pub digitsBefore : ℕ → ℕ → List ℕ → List ℕ
 digitsBefore zero n others = others
 digitsBefore (suc more) n others =
-    elim (ltb n 10) [ true ↦ (48 + n) ∷ others | false ↦ digitsBefore more (n / 10) ((48 + n % 10) ∷ others) ]
+    let rest = digitsBefore more (n / 10) ((48 + n % 10) ∷ others) in
+    if ltb n 10 then (48 + n) ∷ others else rest
 
 -- "Numbers in records are decimal.": n as it is written (proofs/Decimal.antt: it is well written, and it is n)
 unfoldable pub decimal : ℕ → List ℕ

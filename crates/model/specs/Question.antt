@@ -106,13 +106,13 @@ isInTurn book (closeYear letter year paid unpaid tabular) =
     isYearOf (latest (book .lines letter .kept)) year && isOpen (book .lines letter .closed) year
 
 -- "11. PATT: is every incurred above 0 and no paid above its incurred?"
-abbrev pub isCovered : Age → Bool
-isCovered age = ltb 0 (age .incurred) && leb (age .paid) (age .incurred)
+abbrev pub isIncurred : Age → Bool
+isIncurred age = ltb 0 (age .incurred) && leb (age .paid) (age .incurred)
 
 abbrev pub hasIncurred : Call → Bool
 hasIncurred (declare letter opening) = true
 hasIncurred (setRate year months) = true
-hasIncurred (addPattern letter year paid incurred) = all isCovered (agesOf paid incurred)
+hasIncurred (addPattern letter year paid incurred) = all isIncurred (agesOf paid incurred)
 hasIncurred (closeYear letter year paid unpaid tabular) = true
 
 -- "12. PATT: does no cumulative ratio fall from one age to the next?": from the ratio before on
