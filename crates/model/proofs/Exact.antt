@@ -12,7 +12,7 @@ use Rattle.model.specs.HalfYear.{squareLimit}
 use Rattle.model.specs.Pattern.{unpaid}
 use Rattle.model.specs.Composite.{weight}
 use Rattle.model.specs.Exact.{Fraction, presentValue, exactRatio, weightedRatios, meanRatio, AtMost, MoreThan}
-use Rattle.model.specs.Near.{FactorNear}
+use Rattle.model.specs.Near.{factorUnits, FactorNear}
 
 -- the present value over D ^ length: the first payment has a whole year none, and the rest one more than they have by themselves
 abbrev pub numerator : ℕ → List ℕ → ℕ
@@ -105,5 +105,5 @@ pub near-same : (R : ℕ) (a b : Fraction) (f : ℕ) → a .top * b .bottom ≡ 
 near-same R a b f e p q n =
     record {
       at-most = same-low f 1 (10000 + R) squareLimit (a .top) (a .bottom) (b .top) (b .bottom) e p (n .at-most);
-      near-below = same-high (f + 29) 1 (10000 + R) squareLimit (a .top) (a .bottom) (b .top) (b .bottom) e p q (n .near-below);
+      near-below = same-high (f + factorUnits) 1 (10000 + R) squareLimit (a .top) (a .bottom) (b .top) (b .bottom) e p q (n .near-below);
     }

@@ -15,6 +15,7 @@ pub mod Invariant
 pub mod Lengths
 pub mod Lists
 pub mod Near
+pub mod OldRow
 pub mod Passed
 pub mod RowBound
 pub mod Rows

@@ -1,9 +1,9 @@
 -- A factor worked back, a mean of them and the composite are near their exact values.
 -- Assumes nothing.
-use mathlib.Core.Path.{_≡_, refl}
+use mathlib.Core.Path.{_≡_, ap}
 use mathlib.Core.Bool.{Bool, true, false}
 use mathlib.Core.List.{List}
-use Prim.Native.Nat.{ℕ, _+_, _*_, _/_, _^_, _≤_, _<_}
+use Prim.Native.Nat.{ℕ, _+_, _-_, _*_, _/_, _^_, _≤_, _<_}
 use native.Mathlib.Omega.{arith}
 use native.Mathlib.Nat.{mul-le-mul-right, div-mul-le-self, lt-div-mul-add, one-mul, mul-pos, one-le-pow}
 use borrow.Author.Tests.{ne-eqb}
@@ -15,18 +15,18 @@ use Rattle.model.specs.Pattern.{unpaid}
 use Rattle.model.specs.Factor.{factor}
 use Rattle.model.specs.Composite.{weight, weighted, mean, composite}
 use Rattle.model.specs.Exact.{Fraction, exactRatio, weightedRatios, meanRatio, exactComposite, compositeUnpaid}
-use Rattle.model.specs.Near.{FactorNear}
+use Rattle.model.specs.Near.{factorUnits, FactorNear}
 use Rattle.model.proofs.HalfYear.{half-year-is, next-is-above}
 use Rattle.model.proofs.Exact.{numerator-some, numerators, numerators-some, exact-ratio-is, sum-is, near-same}
 use Rattle.model.proofs.FactorBounds.{low, high, square-low, square-high}
 use Rattle.model.proofs.CompositeBounds.{weighted-low, weighted-high}
 
 -- from products of whole numbers to a factor near its exact value
-near : (R F X H N : ℕ) → IsHalfYear (10000 + R) H → F * X ≤ H * N → (H + 1) * N ≤ (F + 29) * X → 0 < N → FactorNear R (record { top = N; bottom = X }) F
+near : (R F X H N : ℕ) → IsHalfYear (10000 + R) H → F * X ≤ H * N → (H + 1) * N ≤ (F + factorUnits) * X → 0 < N → FactorNear R (record { top = N; bottom = X }) F
 near R F X H N h l u n =
     record {
       at-most = rw one-mul (square-low F X H N (10000 + R) squareLimit l (h .fits));
-      near-below = rw one-mul (square-high (F + 29) X (H + 1) N (10000 + R) squareLimit u (next-is-above (10000 + R) H h) n);
+      near-below = rw one-mul (square-high (F + factorUnits) X (H + 1) N (10000 + R) squareLimit u (next-is-above (10000 + R) H h) n);
     }
 
 -- the factor of an age with at most 15 later ages
@@ -34,7 +34,7 @@ pub factor-near : (R : ℕ) (later : List ℕ) → length later ≤ 15 → 0 < u
 factor-near R later n u =
     let D : ℕ = 10000 + R in
     rw (exact-ratio-is R later)
-    (near R _ _ (halfYear R) _ (half-year-is R) (low (halfYear R) D (omega arith) later) (high (halfYear R) D (omega arith) later 29 (omega arith)) (omega (arith, numerator-some D (omega arith) later)))
+    (near R _ _ (halfYear R) _ (half-year-is R) (low (halfYear R) D (omega arith) later) (high (halfYear R) D (omega arith) later factorUnits (omega arith)) (omega (arith, numerator-some D (omega arith) later)))
 
 mean-some : (H D m : ℕ) (later : List ℕ) → 0 < weight m later → mean H D m later ≡ weighted H D m later / weight m later
 unfolding mean
@@ -49,11 +49,11 @@ mean-near R m later n u =
     let c : ℕ = weighted H D m later / W in
     let E : ℕ = D ^ length later in
     let s = sum-is R m later in
-    let a : weighted H D m later + 28 * W ≤ (c + 29) * W = omega (arith, lt-div-mul-add {a = weighted H D m later} u) in
+    let a : weighted H D m later + (factorUnits - 1) * W ≤ (c + factorUnits) * W = omega (arith, lt-div-mul-add {a = weighted H D m later} u) in
     let together : FactorNear R (record { top = numerators D m later; bottom = W * E }) c
     = near R c (W * E) H (numerators D m later) (half-year-is R)
     (omega (arith, mul-le-mul-right E (div-mul-le-self (weighted H D m later) W), weighted-low H D (omega arith) m later))
-    (omega (arith, mul-le-mul-right E a, weighted-high H D (omega arith) m later 28 (omega arith)))
+    (omega (arith, mul-le-mul-right E a, weighted-high H D (omega arith) m later (factorUnits - 1) (omega arith)))
     (omega (arith, numerators-some D (omega arith) m later)) in
     rw (mean-some H D m later u)
     (near-same R (record { top = numerators D m later; bottom = W * E }) (meanRatio R m later) c
@@ -63,7 +63,7 @@ mean-near R m later n u =
     together)
   where
     crossed : (W E M T B : ℕ) → T * E ≡ M * B → M * (B * W) ≡ T * (W * E)
-    crossed W E M T B e = omega (arith, mathlib.Core.Path.ap (λ (x : ℕ). x * W) e)
+    crossed W E M T B e = omega (arith, ap (λ (x : ℕ). x * W) e)
 
 -- the composite of a pattern of at most 16 ages
 pub composite-near : (letter R : ℕ) (pay : List ℕ) → length pay ≤ 16 → 0 < compositeUnpaid letter pay → FactorNear R (exactComposite letter R pay) (composite letter R pay)

@@ -1,0 +1,202 @@
+//! Random records that a book accepts in its present state.
+
+use std::ops::RangeInclusive;
+
+use crate::book::{Book, DeclaredLine};
+use crate::kinds::{Letter, HIGHEST_AMOUNT, HIGHEST_OPENING, HIGHEST_RATE};
+use crate::pattern::{cumulative_ratio, CumulativeRow};
+use crate::random::Random;
+use crate::rate::MONTHS;
+
+/// The fields of a record.
+pub type Fields = Vec<String>;
+
+/// The next record for a line: LINE, then for each year a RATE if it is still
+/// to be given, a PATT and a YEAR. Before the first YEAR there may be several
+/// PATT. Nothing if the line has come to the last of the years.
+pub fn next_record(
+    random: &mut Random,
+    book: &Book,
+    letter: Letter,
+    years: &RangeInclusive<u64>,
+) -> Option<Fields> {
+    let Some(line) = book.lines.get(&letter) else {
+        return Some(line_record(random, letter));
+    };
+    let next_year = next_pattern_year(random, line, years);
+    match line.last_pattern_year() {
+        Some(year) if line.takes_year(year) => {
+            let close = line.last_closing.is_some() || random.once_in(4);
+            match next_year {
+                Some(next_year) if !close => Some(rate_or_pattern(random, book, letter, next_year)),
+                _ => Some(year_record(random, letter, year, Some(line))),
+            }
+        }
+        _ => next_year.map(|next_year| rate_or_pattern(random, book, letter, next_year)),
+    }
+}
+
+/// The year of the line's next pattern, at random for the first.
+fn next_pattern_year(
+    random: &mut Random,
+    line: &DeclaredLine,
+    years: &RangeInclusive<u64>,
+) -> Option<u64> {
+    let (first, last) = (*years.start(), *years.end());
+    match line.last_pattern_year() {
+        None => Some(match random.below(4) {
+            0 => first,
+            1 => random.between(first, last),
+            _ => random.between(first, first + 20),
+        }),
+        Some(year) if year < last => Some(year + 1),
+        Some(_) => None,
+    }
+}
+
+fn rate_or_pattern(random: &mut Random, book: &Book, letter: Letter, year: u64) -> Fields {
+    if book.rates.contains_key(&year) {
+        pattern_record(random, letter, year)
+    } else {
+        rate_record(random, year)
+    }
+}
+
+pub fn line_record(random: &mut Random, letter: Letter) -> Fields {
+    let opening = match random.below(8) {
+        0 => HIGHEST_OPENING,
+        _ => 7 * random.amount(),
+    };
+    vec![
+        "LINE".into(),
+        letter.character().into(),
+        opening.to_string(),
+    ]
+}
+
+/// Sixty rates about a level of the year's own, from 0 to the highest.
+pub fn rate_record(random: &mut Random, year: u64) -> Fields {
+    let level = match random.below(12) {
+        0 => 0,
+        1 => HIGHEST_RATE,
+        _ => random.between(0, HIGHEST_RATE),
+    };
+    let distance = random.choice(&[0, 3, 60, HIGHEST_RATE]);
+    let lowest = level.saturating_sub(distance);
+    let highest = (level + distance).min(HIGHEST_RATE);
+    let mut fields = vec!["RATE".to_string(), year.to_string()];
+    for _month in 0..MONTHS {
+        fields.push(random.between(lowest, highest).to_string());
+    }
+    fields
+}
+
+/// With this incurred every odd paid has a ratio that ends in a half.
+const INCURRED_OF_HALVES: u64 = 200_000_000;
+
+/// A PATT in which no ratio falls.
+pub fn pattern_record(random: &mut Random, letter: Letter, year: u64) -> Fields {
+    let mut fields = vec!["PATT".into(), letter.character().into(), year.to_string()];
+    let highest = match random.below(8) {
+        0 => HIGHEST_AMOUNT,
+        1 => random.between(1, 1_000),
+        2 => INCURRED_OF_HALVES,
+        _ => random.between(2_000_000, HIGHEST_AMOUNT),
+    };
+    let varies = highest >= 2_000_000 && highest != INCURRED_OF_HALVES;
+    let mut incurred = highest;
+    let mut billionths_before = 0;
+    for billionths in cumulative_billionths(random, letter.kind().ages()) {
+        // Where the ratio rises enough, the age gets an incurred of its own.
+        if varies && billionths >= billionths_before + 1_000 {
+            incurred = random.between(highest / 2, highest);
+        }
+        let mut paid = paid_of(incurred, billionths);
+        // Where the ratio stays, the paid may fall by what the rounding hides.
+        if billionths == billionths_before && rounding_hides_one(paid, incurred) {
+            paid -= 1;
+        }
+        fields.push(paid.to_string());
+        fields.push(incurred.to_string());
+        billionths_before = billionths;
+    }
+    fields
+}
+
+/// The paid, rounded up, that is so many billionths of an incurred.
+fn paid_of(incurred: u64, billionths: u64) -> u64 {
+    let product = u128::from(incurred) * u128::from(billionths);
+    let paid = product.div_ceil(1_000_000_000);
+    u64::try_from(paid).expect("at most the incurred")
+}
+
+/// Whether a paid and the one below it have the same cumulative ratio.
+fn rounding_hides_one(paid: u64, incurred: u64) -> bool {
+    let ratio = |paid| cumulative_ratio(CumulativeRow { paid, incurred });
+    paid > 0 && ratio(paid - 1) == ratio(paid)
+}
+
+/// Cumulative ratios that do not fall: mostly large payments and a tail of 0.1
+/// to 60 percent; now and then nothing, everything or little paid by some age.
+fn cumulative_billionths(random: &mut Random, ages: usize) -> Vec<u64> {
+    let unpaid = match random.below(10) {
+        0 => 0,
+        1 => random.between(900_000_000, 1_000_000_000),
+        _ => random.between(1_000_000, 600_000_000),
+    };
+    let mut weights: Vec<u64> = (0..ages).map(|_| random.between(10, 1_000)).collect();
+    if random.once_in(8) {
+        let place = random.place(ages);
+        weights[place..].fill(0);
+    }
+    if random.once_in(8) {
+        weights[ages - 1] = random.below(3);
+    }
+    let all_weights = weights.iter().sum::<u64>().max(1);
+    let mut weight_so_far = 0;
+    let mut cumulative = Vec::new();
+    for weight in weights {
+        weight_so_far += weight;
+        cumulative.push((1_000_000_000 - unpaid) * weight_so_far / all_weights);
+    }
+    cumulative
+}
+
+/// A YEAR whose age rows have a gross only where the line keeps a pattern.
+pub fn year_record(
+    random: &mut Random,
+    letter: Letter,
+    year: u64,
+    line: Option<&DeclaredLine>,
+) -> Fields {
+    let mut fields = vec!["YEAR".into(), letter.character().into(), year.to_string()];
+    let ages = letter.kind().ages();
+    for age in 1..=ages + 1 {
+        fields.push(paid_in_year(random));
+        let has_pattern = line.is_some_and(|line| line.pattern_of_row(year, age).is_some());
+        if age > ages || has_pattern {
+            fields.push(random.amount().to_string());
+            fields.push(tabular_discount(random));
+        } else {
+            fields.extend(["0".to_string(), "0".to_string()]);
+        }
+    }
+    fields
+}
+
+fn paid_in_year(random: &mut Random) -> String {
+    let paid = random.amount();
+    if paid > 0 && random.once_in(4) {
+        format!("-{paid}")
+    } else {
+        paid.to_string()
+    }
+}
+
+fn tabular_discount(random: &mut Random) -> String {
+    if random.once_in(2) {
+        random.amount().to_string()
+    } else {
+        "0".to_string()
+    }
+}

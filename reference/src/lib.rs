@@ -1,0 +1,25 @@
+//! The discounting book of document 01, written from that document alone.
+//!
+//! A line of input goes through these files in this order: `run` cuts the
+//! input into lines, `record` puts questions 1 to 6, `book` puts questions 7
+//! to 13 and keeps the state, `pattern`, `factor` and `reserve` compute, and
+//! `answer` writes the output line.
+//!
+//! `exact` holds whole numbers of any size for the bounds of demand 3.
+//! `random`, `accepted_record`, `refused_record` and `stream` make random input.
+
+pub mod accepted_record;
+pub mod answer;
+pub mod book;
+pub mod exact;
+pub mod factor;
+pub mod kinds;
+pub mod pattern;
+pub mod question;
+pub mod random;
+pub mod rate;
+pub mod record;
+pub mod refused_record;
+pub mod reserve;
+pub mod run;
+pub mod stream;

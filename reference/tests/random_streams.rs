@@ -1,0 +1,227 @@
+//! Random streams: every answer and every refusal number occurs, the counts
+//! add up, and refusals leave the state as it was.
+
+mod common;
+
+use std::collections::BTreeMap;
+
+use common::output;
+use reference::accepted_record::next_record;
+use reference::answer::Answer;
+use reference::book::Book;
+use reference::kinds::{Letter, LineKind, HIGHEST_AMOUNT, HIGHEST_RATE};
+use reference::random::Random;
+use reference::record::{read, Request};
+use reference::refused_record::{line_of, refused_line};
+use reference::run::records;
+use reference::stream::random_stream;
+
+const SEEDS: std::ops::Range<u64> = 0..12;
+const RECORDS: usize = 1_500;
+
+/// How often each answer occurs in a run; a NO is counted with its number.
+fn answers(stream: &[u8]) -> BTreeMap<String, usize> {
+    let mut counts = BTreeMap::new();
+    for line in output(stream) {
+        let fields: Vec<&str> = line.split(' ').collect();
+        let answer = match fields[0] {
+            "NO" => line.clone(),
+            word => word.to_string(),
+        };
+        *counts.entry(answer).or_insert(0) += 1;
+    }
+    counts
+}
+
+#[test]
+fn every_answer_and_every_refusal_number_occurs_often() {
+    for seed in SEEDS {
+        let counts = answers(&random_stream(seed, RECORDS));
+        for number in 1..=13 {
+            let count = counts[&format!("NO {number}")];
+            assert!(count >= RECORDS / 100, "seed {seed}, NO {number}: {count}");
+        }
+        for (word, least) in [("LINE", 8), ("RATE", 40), ("FACT", 200), ("TAX", 150)] {
+            assert!(counts[word] >= least, "seed {seed}, {word}");
+        }
+    }
+}
+
+#[test]
+fn short_and_long_streams_have_every_answer_too() {
+    for records in [700, 5_000, 12_000] {
+        let counts = answers(&random_stream(77, records));
+        assert_eq!(counts.len(), 13 + 4 + 1, "{records} records: {counts:?}");
+        assert_eq!(counts.values().sum::<usize>(), records + 1);
+    }
+    assert_eq!(random_stream(5, 0), b"");
+}
+
+#[test]
+fn the_counts_of_done_add_up() {
+    for seed in SEEDS {
+        let lines = output(&random_stream(seed, RECORDS));
+        let refused = lines.iter().filter(|line| line.starts_with("NO ")).count();
+        assert_eq!(lines.len(), RECORDS + 1);
+        let expected = format!("DONE {} {refused}", RECORDS - refused);
+        assert_eq!(lines[RECORDS], expected);
+    }
+}
+
+#[test]
+fn refusals_leave_the_state_as_it_was() {
+    for seed in SEEDS {
+        let mut book = Book::default();
+        for line in records(&random_stream(seed, 600)) {
+            let before = book.clone();
+            let answer = book.answer(line);
+            let (accepted, refused) = (before.accepted, before.refused);
+            if matches!(answer, Answer::No(_)) {
+                let refused = refused + 1;
+                assert_eq!(book, Book { refused, ..before });
+            } else {
+                assert_eq!((book.accepted, book.refused), (accepted + 1, refused));
+            }
+        }
+    }
+}
+
+#[test]
+fn a_record_made_to_be_refused_gets_its_number() {
+    let mut book = Book::default();
+    let mut random = Random::new(99);
+    for line in records(&random_stream(7, 2_000)) {
+        book.answer(line);
+        for number in 1..=13 {
+            if let Some(refused) = refused_line(&mut random, &book, number) {
+                let answer = book.clone().answer(&refused);
+                let Answer::No(question) = answer else {
+                    panic!("accepted: {}", String::from_utf8_lossy(&refused));
+                };
+                assert_eq!(question.number(), number);
+            }
+        }
+    }
+}
+
+#[test]
+fn a_record_made_to_be_accepted_is_accepted() {
+    let mut random = Random::new(98);
+    for _ in 0..4 {
+        let mut book = Book::default();
+        for number in 0..2_000 {
+            let letter = Letter::all()[number % 15];
+            if let Some(fields) = next_record(&mut random, &book, letter, &(1987..=2099)) {
+                let answer = book.answer(&line_of(fields.clone()));
+                assert!(!matches!(answer, Answer::No(_)), "{fields:?}: {answer:?}");
+            }
+        }
+    }
+}
+
+#[test]
+fn a_seed_gives_one_stream_and_some_streams_lack_the_last_byte_10() {
+    let streams: Vec<Vec<u8>> = SEEDS.map(|seed| random_stream(seed, 300)).collect();
+    assert_eq!(streams[3], random_stream(3, 300));
+    assert_ne!(streams[3], streams[4]);
+    let ended = streams.iter().filter(|stream| stream.ends_with(b"\n"));
+    assert!((1..streams.len()).contains(&ended.count()));
+}
+
+/// What the accepted records of one stream show.
+#[derive(Default)]
+struct Variety {
+    patterns: BTreeMap<Letter, usize>,
+    closings: BTreeMap<Letter, usize>,
+    with_tail: usize,
+    negative_paid: usize,
+    tabular_discounts: usize,
+    highest_amounts: usize,
+    gross_in_age_rows_over_ten_years: usize,
+}
+
+impl Variety {
+    fn of(stream: &[u8], book: &mut Book) -> Variety {
+        let mut variety = Variety::default();
+        for line in records(stream) {
+            let request = read(line);
+            let answer = book.answer(line);
+            if !matches!(answer, Answer::No(_)) {
+                variety.count(&request.expect("accepted"), book);
+            }
+        }
+        variety
+    }
+
+    fn count(&mut self, request: &Request, book: &Book) {
+        match request {
+            Request::Pattern { letter, .. } => {
+                *self.patterns.entry(*letter).or_default() += 1;
+                let kept = book.lines[letter].patterns.last().expect("just given");
+                let ages = letter.kind().ages();
+                let unpaid = kept.pattern.unpaid(ages);
+                let all_paid_something = (1..=ages).all(|age| kept.pattern.payment(age) > 0);
+                self.with_tail += usize::from(unpaid > 0 && all_paid_something);
+            }
+            Request::Year { letter, rows, .. } => {
+                *self.closings.entry(*letter).or_default() += 1;
+                for row in rows {
+                    self.negative_paid += usize::from(row.paid < 0);
+                    self.tabular_discounts += usize::from(row.tabular_discount > 0);
+                    self.highest_amounts += usize::from(row.unpaid == HIGHEST_AMOUNT);
+                }
+                let ages = letter.kind().ages();
+                let all_gross = rows[..ages].iter().filter(|row| row.gross() > 0).count();
+                self.gross_in_age_rows_over_ten_years += usize::from(all_gross >= 9);
+            }
+            Request::Line { .. } | Request::Rate { .. } => {}
+        }
+    }
+}
+
+#[test]
+fn the_accepted_records_vary() {
+    for seed in SEEDS {
+        let mut book = Book::default();
+        let variety = Variety::of(&random_stream(seed, RECORDS), &mut book);
+        let patterns: usize = variety.patterns.values().sum();
+        assert!(variety.with_tail * 10 > patterns * 6, "seed {seed}");
+        let ten_year = |letter: &&Letter| letter.kind() == LineKind::TenYear;
+        let long_lines = variety.patterns.keys().filter(ten_year);
+        assert!(
+            long_lines
+                .filter(|letter| variety.patterns[letter] > 10)
+                .count()
+                > 1
+        );
+        assert!(variety.closings.values().any(|closings| *closings > 15));
+        assert!(variety.negative_paid > 50 && variety.tabular_discounts > 50);
+        assert!(variety.highest_amounts > 20);
+        assert!(variety.gross_in_age_rows_over_ten_years > 10, "seed {seed}");
+        let mut rates: Vec<u64> = book.rates.values().copied().collect();
+        rates.sort_unstable();
+        rates.dedup();
+        assert!(rates.len() > 40);
+        assert!(rates[0] < 100 && rates[rates.len() - 1] > HIGHEST_RATE - 100);
+    }
+}
+
+/// Any bytes at all get an answer for each line.
+#[test]
+fn random_bytes_are_answered() {
+    let mut random = Random::new(2024);
+    for _ in 0..200 {
+        let length = random.below(3_000);
+        let common = b"\n\n\t\t\tLINERATEPATTYEARAJ0123456789-";
+        let mut input = Vec::new();
+        for _ in 0..length {
+            let byte = match random.below(8) {
+                0 => random.below(256) as u8,
+                _ => random.choice(common),
+            };
+            input.push(byte);
+        }
+        let lines = output(&input);
+        assert_eq!(lines.len(), records(&input).len() + 1);
+    }
+}
