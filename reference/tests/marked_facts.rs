@@ -1,10 +1,12 @@
 //! P1 to P13 of document 01.
 
+mod common;
+
+use common::{discounted, ratio};
 use reference::factor::{half_year_factor, kept_factors};
 use reference::kinds::LineKind;
-use reference::pattern::{cumulative_ratio, ten_year_tail, CumulativeRow, Pattern};
+use reference::pattern::{ten_year_tail, CumulativeRow, Pattern};
 use reference::rate::accident_year_rate;
-use reference::reserve::Row;
 
 /// Sixty monthly rates with that sum.
 fn rates_with_sum(sum: u64) -> Vec<u64> {
@@ -13,22 +15,9 @@ fn rates_with_sum(sum: u64) -> Vec<u64> {
     rates
 }
 
-fn ratio(paid: u64, incurred: u64) -> u64 {
-    cumulative_ratio(CumulativeRow { paid, incurred })
-}
-
 /// The tail in millions of half units.
 fn tail_in_millions(unpaid: u64, tenth_payment: u64) -> [u64; 6] {
     ten_year_tail(unpaid * 1_000_000, tenth_payment * 1_000_000).map(|payment| payment / 1_000_000)
-}
-
-fn discounted(unpaid: u64, tabular_discount: u64, published_factor: u64) -> u64 {
-    let row = Row {
-        paid: 0,
-        unpaid,
-        tabular_discount,
-    };
-    row.discounted(published_factor)
 }
 
 #[test]

@@ -2,24 +2,9 @@
 
 mod common;
 
-use common::{answer, book_after, rate};
+use common::{answer, book_after, discounted, rate, ratio};
 use reference::factor::published;
-use reference::pattern::{cumulative_ratio, CumulativeRow};
 use reference::rate::accident_year_rate;
-use reference::reserve::Row;
-
-fn ratio(paid: u64, incurred: u64) -> u64 {
-    cumulative_ratio(CumulativeRow { paid, incurred })
-}
-
-fn discounted(unpaid: u64, tabular_discount: u64, published_factor: u64) -> u64 {
-    let row = Row {
-        paid: 0,
-        unpaid,
-        tabular_discount,
-    };
-    row.discounted(published_factor)
-}
 
 /// "paid × 100,000,000 / incurred, rounded half up"
 #[test]

@@ -3,7 +3,7 @@
 use mathlib.Core.Path.{_≡_, refl, sym}
 use mathlib.Core.Bool.{true, not}
 use mathlib.Core.List.{List, [], append-nil}
-use mathlib.Core.Option.{none, some}
+use mathlib.Core.Option.{none}
 use Prim.Native.Nat.{ℕ}
 use borrow.Author.Tests.{eq-eqb}
 use lib.IntN.{pos, _+ℤ_, +ℤ-idr}

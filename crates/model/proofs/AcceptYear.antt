@@ -7,7 +7,7 @@ use Prim.Native.Nat.{ℕ}
 use native.Mathlib.Omega.{arith}
 use borrow.Author.Tests.{eq-eqb}
 use lib.ListN.{take}
-use lib.IntN.{ℤ, pos, _+ℤ_, _-ℤ_, +ℤ-idr, +ℤ-assoc, +ℤ-comm, -ℤ-+ℤ-cancel}
+use lib.IntN.{ℤ, pos, _+ℤ_, _-ℤ_, +ℤ-assoc, +ℤ-comm, -ℤ-+ℤ-cancel}
 use Rattle.model.specs.Basics.{given, orDefault}
 use Rattle.model.specs.Letter.{ages}
 use Rattle.model.specs.Row.{Row, rowsOf}

@@ -3,7 +3,6 @@
 use mathlib.Core.Path.{_≡_, refl, ap, _∙_}
 use mathlib.Core.Bool.{Bool, true, false}
 use mathlib.Core.List.{List, [], _∷_, map}
-use mathlib.Core.Logic.{⊎-elim}
 use Prim.Native.Nat.{ℕ, zero, suc, _+_, _-_, _≤_, _<_}
 use native.Mathlib.Omega.{arith, by-contra}
 use native.Mathlib.Nat.{not-suc-le-zero}
@@ -12,10 +11,9 @@ use lib.Seq.{getD-take}
 use Rattle.model.specs.Basics.{if_then_else_, lastOr}
 use Rattle.model.specs.Letter.{ages, tenYear}
 use Rattle.model.specs.HalfYear.{halfYear}
-use Rattle.model.specs.Pattern.{Age, agesOf, cumulative, payments, unpaid, whole}
+use Rattle.model.specs.Pattern.{Age, agesOf, cumulative, payments, whole}
 use Rattle.model.specs.Tail.{tenYearTail, twoYearTail, schedule}
 use Rattle.model.specs.Factor.{factor, factors, keptFactors}
-use Rattle.model.specs.Exact.{exactRatio}
 use Rattle.model.specs.Near.{FactorNear}
 use Rattle.model.specs.Demand.{unpaidAt, exactAt}
 use Rattle.model.proofs.Near.{factor-near}

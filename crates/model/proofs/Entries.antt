@@ -6,11 +6,11 @@ use mathlib.Core.Logic.{⊎-elim}
 use mathlib.Core.Option.{Option, none, some}
 use Prim.Native.Nat.{ℕ, _<_}
 use native.Mathlib.Nat.{eq-zero-or-pos}
-use lib.IntN.{ℤ, pos, _+ℤ_, +ℤ-assoc, +ℤ-idl, +ℤ-idr}
+use lib.IntN.{ℤ, _+ℤ_, +ℤ-assoc, +ℤ-idl, +ℤ-idr}
 use mathlib.Core.Path.{_∙_}
 use Rattle.model.specs.Basics.{total}
 use Rattle.model.specs.Row.{Row, rowsOf, gross}
-use Rattle.model.specs.Book.{Book, Kept, Line}
+use Rattle.model.specs.Book.{Book, Line}
 use Rattle.model.specs.YearEnd.{discountedRow}
 use Rattle.model.specs.Call.{Call, declare, setRate, addPattern, closeYear}
 use Rattle.model.specs.Answer.{Answer}

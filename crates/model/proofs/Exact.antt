@@ -5,13 +5,13 @@ use mathlib.Core.Logic.{⊎-elim}
 use mathlib.Core.List.{List, [], _∷_}
 use Prim.Native.Nat.{ℕ, zero, suc, _+_, _-_, _*_, _^_, _≤_, _<_}
 use native.Mathlib.Omega.{arith}
-use native.Mathlib.Nat.{eq-zero-or-pos, pow-suc, pow-zero, one-le-pow, mul-le-mul-left, mul-le-mul-right, mul-pos, add-sub-cancel-left, le-of-mul-le-mul-right, lt-of-mul-lt-mul-right, mul-lt-mul-of-pos-right}
+use native.Mathlib.Nat.{eq-zero-or-pos, pow-suc, pow-zero, one-le-pow, mul-le-mul-left, mul-le-mul-right, mul-pos, le-of-mul-le-mul-right, lt-of-mul-lt-mul-right, mul-lt-mul-of-pos-right}
 use borrow.Author.Tests.{eq-eqb, ne-eqb}
 use lib.ListN.{length}
 use Rattle.model.specs.HalfYear.{squareLimit}
 use Rattle.model.specs.Pattern.{unpaid}
 use Rattle.model.specs.Composite.{weight}
-use Rattle.model.specs.Exact.{Fraction, presentValue, exactRatio, weightedRatios, meanRatio, AtMost, MoreThan}
+use Rattle.model.specs.Exact.{Fraction, presentValue, exactRatio, weightedRatios}
 use Rattle.model.specs.Near.{factorUnits, FactorNear}
 
 -- the present value over D ^ length: the first payment has a whole year none, and the rest one more than they have by themselves

@@ -1,9 +1,9 @@
 -- The factor's bounds in whole numbers, for any list of payments; and from whole numbers to squares.
 -- Assumes nothing.
-use mathlib.Core.Path.{_≡_, refl, ap}
+use mathlib.Core.Path.{_≡_, ap}
 use mathlib.Core.Logic.{⊎-elim}
 use mathlib.Core.List.{List, [], _∷_}
-use Prim.Native.Nat.{ℕ, suc, _+_, _*_, _-_, _/_, _^_, _≤_, _<_}
+use Prim.Native.Nat.{ℕ, _+_, _*_, _-_, _/_, _^_, _≤_, _<_}
 use native.Mathlib.Omega.{arith}
 use native.Mathlib.Nat.{eq-zero-or-pos, mul-le-mul-right, mul-le-mul, mul-lt-mul-of-pos-right, div-mul-le-self, lt-div-mul-add, lt-of-mul-lt-mul-right, pow-suc, mul-pos}
 use borrow.Author.Tests.{ne-eqb}

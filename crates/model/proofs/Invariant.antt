@@ -1,7 +1,7 @@
 -- What ties the book to the accepted records so far, and that a record of another line leaves a line's part of it standing.
 -- Assumes nothing.
 use mathlib.Core.Path.{_≡_}
-use mathlib.Core.List.{List, [], _∷_, _++_, reverse, append-nil}
+use mathlib.Core.List.{List, [], _∷_, reverse, append-nil}
 use mathlib.Core.Option.{Option, none, some}
 use Prim.Native.Nat.{ℕ, _≤_}
 use lib.ListN.{take}

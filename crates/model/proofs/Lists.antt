@@ -1,14 +1,14 @@
 -- Facts on lists, options and tests that no kit library has.
 -- Assumes nothing.
-use mathlib.Core.Path.{_≡_, refl, sym, ap, _∙_}
+use mathlib.Core.Path.{_≡_, refl, sym}
 use mathlib.Core.Bool.{Bool, true, false, _&&_, not}
 use mathlib.Core.List.{List, [], _∷_, _++_}
 use mathlib.Core.Option.{Option, none, some}
-use Prim.Native.Nat.{ℕ, zero, suc, _+_, _≤_}
+use Prim.Native.Nat.{ℕ, zero, suc, _+_}
 use native.Mathlib.Omega.{arith}
 use borrow.Author.Tests.{eqb-true}
 use lib.Dec.{eqb}
-use lib.ListN.{take, drop, length}
+use lib.ListN.{take}
 use lib.Seq.{take-take}
 use Rattle.model.specs.Basics.{if_then_else_, given, put, sum, Every, EveryAt}
 use Rattle.model.specs.Question.{firstNo}

@@ -14,7 +14,7 @@ use Rattle.model.specs.HalfYear.{squareLimit, IsHalfYear, halfYear}
 use Rattle.model.specs.Pattern.{unpaid}
 use Rattle.model.specs.Factor.{factor}
 use Rattle.model.specs.Composite.{weight, weighted, mean, composite}
-use Rattle.model.specs.Exact.{Fraction, exactRatio, weightedRatios, meanRatio, exactComposite, compositeUnpaid}
+use Rattle.model.specs.Exact.{exactRatio, weightedRatios, meanRatio, exactComposite, compositeUnpaid}
 use Rattle.model.specs.Near.{factorUnits, FactorNear}
 use Rattle.model.proofs.HalfYear.{half-year-is, next-is-above}
 use Rattle.model.proofs.Exact.{numerator-some, numerators, numerators-some, exact-ratio-is, sum-is, near-same}

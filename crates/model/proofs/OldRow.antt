@@ -2,7 +2,6 @@
 -- Assumes nothing.
 use mathlib.Core.Path.{_≡_, refl}
 use mathlib.Core.List.{List, [], _∷_}
-use Prim.Native.Nat.{ℕ}
 use Prim.Native.Char.{code}
 use lib.ListN.{replicate}
 use lib.IntN.{pos}

@@ -11,7 +11,7 @@ use lib.Dec.{leb, ltb}
 use lib.ListN.{length, take, drop, getD, take-append-drop}
 use Rattle.model.specs.Basics.{if_then_else_, all, lastOr, sum}
 use Rattle.model.specs.Letter.{tenYear}
-use Rattle.model.specs.Pattern.{Age, cumulativeRatio, cumulative, payments, unpaid, whole}
+use Rattle.model.specs.Pattern.{Age, cumulativeRatio, cumulative, payments, whole}
 use Rattle.model.specs.Tail.{capped, tenYearTail, twoYearTail, schedule}
 use Rattle.model.specs.Question.{isIncurred, climbsFrom}
 use Rattle.model.specs.Demand.{unpaidAt}

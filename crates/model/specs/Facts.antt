@@ -1,7 +1,7 @@
 -- Document 01, "Marked facts": P1 to P13.
 -- Assumes nothing: these are definitions.
 use mathlib.Core.Path.{_≡_}
-use mathlib.Core.List.{List, [], _∷_, _++_}
+use mathlib.Core.List.{[], _∷_, _++_}
 use Prim.Native.Nat.{ℕ}
 use Prim.Native.Char.{code}
 use lib.ListN.{replicate}

@@ -1,6 +1,6 @@
 -- Document 01, "Pattern": ratios, payments and what is unpaid, in half units.
 -- Assumes nothing: these are definitions.
-use mathlib.Core.List.{List, [], _∷_, map}
+use mathlib.Core.List.{List, [], _∷_}
 use Prim.Native.Nat.{ℕ, _+_, _-_, _*_, _/_}
 use Rattle.model.specs.Basics.{sum}
 

@@ -1,9 +1,9 @@
 -- Document 01, "Questions put to a record, in this order". Each definition is a question, under its own words; the tables are below them.
 -- Assumes nothing: these are definitions.
 use mathlib.Core.Bool.{Bool, true, false, not, _&&_, _||_}
-use mathlib.Core.List.{List, [], _∷_, _++_, map}
+use mathlib.Core.List.{List, [], _∷_, map}
 use mathlib.Core.Option.{Option, none, some}
-use Prim.Native.Nat.{ℕ, suc, _+_, _-_}
+use Prim.Native.Nat.{ℕ, suc, _-_}
 use lib.Dec.{eqb, leb, ltb}
 use lib.ListN.{length, take, drop}
 use Rattle.model.specs.Basics.{if_then_else_, given, all}
@@ -11,7 +11,7 @@ use Rattle.model.specs.Kind.{isRate, isYear, isOpening, isAmount, isPaid
 use Rattle.model.specs.Letter.{covered, ages}
 use Rattle.model.specs.Pattern.{Age, agesOf, cumulativeRatio}
 use Rattle.model.specs.Row.{Row, rowsOf, gross}
-use Rattle.model.specs.Book.{Book, Line, Kept, Closed, latest, find}
+use Rattle.model.specs.Book.{Book, Kept, Closed, latest, find}
 use Rattle.model.specs.Call.{Call, declare, setRate, addPattern, closeYear}
 use Rattle.model.specs.Field.{fields, field, letterIn}
 use Rattle.model.specs.Record.{Word, LINE, RATE, PATT, YEAR, OTHER, wordOf, fieldCount, firstNumber, allWritten, callFrom}

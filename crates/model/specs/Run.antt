@@ -4,7 +4,7 @@ use mathlib.Core.List.{List, [], _∷_, _++_, map}
 use Prim.Native.Nat.{ℕ}
 use Rattle.model.specs.Book.{Book, empty}
 use Rattle.model.specs.Input.{linesOf}
-use Rattle.model.specs.Answer.{Answer, text, doneText}
+use Rattle.model.specs.Answer.{text, doneText}
 use Rattle.model.specs.Step.{Request, asBytes, step}
 
 -- "Each record gets the book that the one before left, and nothing else writes to the book meanwhile.": the last book

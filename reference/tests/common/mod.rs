@@ -3,6 +3,8 @@
 
 use reference::answer::Answer;
 use reference::book::Book;
+use reference::pattern::{cumulative_ratio, CumulativeRow};
+use reference::reserve::Row;
 use reference::run::run;
 
 /// The bytes of a line written with spaces for tabs.
@@ -62,4 +64,19 @@ pub fn output_of(records: &[&str]) -> Vec<String> {
         input.push(b'\n');
     }
     output(&input)
+}
+
+/// The cumulative ratio of an age.
+pub fn ratio(paid: u64, incurred: u64) -> u64 {
+    cumulative_ratio(CumulativeRow { paid, incurred })
+}
+
+/// The discounted row of a reserve.
+pub fn discounted(unpaid: u64, tabular_discount: u64, published_factor: u64) -> u64 {
+    let row = Row {
+        paid: 0,
+        unpaid,
+        tabular_discount,
+    };
+    row.discounted(published_factor)
 }
