@@ -5,7 +5,7 @@ mod common;
 use common::{discounted, ratio};
 use reference::factor::{half_year_factor, kept_factors};
 use reference::kinds::LineKind;
-use reference::pattern::{ten_year_tail, CumulativeRow, Pattern};
+use reference::pattern::{ten_year_tail, Pattern};
 use reference::rate::accident_year_rate;
 
 /// Sixty monthly rates with that sum.
