@@ -19,13 +19,13 @@ use Rattle.model.specs.Demand.{unpaidAt, exactAt}
 use Rattle.model.proofs.Near.{factor-near}
 
 -- the factor of the age at place k is that of the payments after it
-at-age : (H D : ℕ) (pay : List ℕ) (k : ℕ) → k < length pay → getD (factors H D pay) k 0 ≡ factor H D (drop (suc k) pay)
+pub at-age : (H D : ℕ) (pay : List ℕ) (k : ℕ) → k < length pay → getD (factors H D pay) k 0 ≡ factor H D (drop (suc k) pay)
 unfolding factors
 at-age H D [] k h = absurd (not-suc-le-zero h)
 at-age H D (p ∷ later) zero h = refl
 at-age H D (p ∷ later) (suc k) h = at-age H D later k (omega arith)
 
-length-factors : (H D : ℕ) (pay : List ℕ) → length (factors H D pay) ≡ length pay
+pub length-factors : (H D : ℕ) (pay : List ℕ) → length (factors H D pay) ≡ length pay
 unfolding factors
 length-factors H D [] = refl
 length-factors H D (p ∷ later) = ap suc (length-factors H D later)
@@ -45,6 +45,14 @@ unfolding ages
 ages-positive letter = by-kind (tenYear letter)
   where
     by-kind : (t : Bool) → 0 < (if t then 10 else 2)
+    by-kind true = omega arith
+    by-kind false = omega arith
+
+pub ages-small : (letter : ℕ) → ages letter ≤ 10
+unfolding ages
+ages-small letter = by-kind (tenYear letter)
+  where
+    by-kind : (t : Bool) → (if t then 10 else 2) ≤ 10
     by-kind true = omega arith
     by-kind false = omega arith
 

@@ -1,16 +1,17 @@
 -- Facts on lists, options and tests that no kit library has.
 -- Assumes nothing.
-use mathlib.Core.Path.{_≡_, refl, sym}
+use mathlib.Core.Path.{_≡_, refl, sym, ap}
 use mathlib.Core.Bool.{Bool, true, false, _&&_, not}
 use mathlib.Core.List.{List, [], _∷_, _++_}
 use mathlib.Core.Option.{Option, none, some}
-use Prim.Native.Nat.{ℕ, zero, suc, _+_}
+use Prim.Native.Nat.{ℕ, zero, suc, _+_, _≤_, _<_}
 use native.Mathlib.Omega.{arith}
 use borrow.Author.Tests.{eqb-true}
 use lib.Dec.{eqb}
-use lib.ListN.{take}
-use lib.Seq.{take-take}
-use Rattle.model.specs.Basics.{if_then_else_, given, put, sum, Every, EveryAt}
+use native.Mathlib.Numerals.{add-one}
+use lib.ListN.{length, take, drop, getD, take-append-drop}
+use lib.Seq.{take-take, drop-cons}
+use Rattle.model.specs.Basics.{if_then_else_, given, put, all, sum, Every, EveryAt}
 use Rattle.model.specs.Question.{firstNo}
 
 pub some≢none : {A : Type 0} (a : A) → some a ≡ none → ⊥
@@ -93,3 +94,16 @@ take-again (suc n) a xs = rw (take-take n (suc n) xs (omega arith))
 pub sum-append : (xs ys : List ℕ) → sum (xs ++ ys) ≡ sum xs + sum ys
 sum-append [] ys = omega arith
 sum-append (x ∷ xs) ys = omega (arith, sum-append xs ys)
+
+-- one element more, as code counts
+pub drop-next : {A : Type 0} (l : List A) (i : ℕ) (d : A) → i < length l → drop i l ≡ getD l i d ∷ drop (i + 1) l
+drop-next l i d lt = rw (add-one, drop-cons l i d lt)
+
+-- what holds of every element holds of each
+pub all-at : {A : Type 0} (test : A → Bool) (l : List A) (i : ℕ) (d : A) → all test l ≡ true → i < length l → test (getD l i d) ≡ true
+all-at test [] i d e lt = absurd (omega arith)
+all-at test (x ∷ xs) zero d e lt = and-left (test x) (all test xs) e
+all-at test (x ∷ xs) (suc i) d e lt = all-at test xs i d (and-right (test x) (all test xs) e) (omega arith)
+
+pub sum-drop : (k : ℕ) (l : List ℕ) → sum (drop k l) ≤ sum l
+sum-drop k l = omega (arith, sum-append (take k l) (drop k l), ap sum (take-append-drop k l))

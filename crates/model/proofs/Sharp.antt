@@ -9,6 +9,7 @@ use mathlib.Core.Bool.{true, _&&_}
 use mathlib.Core.List.{map}
 use lib.ListN.{getD, replicate}
 use Rattle.model.specs.Basics.{all}
+use Rattle.model.specs.Letter.{tenYear, twoYear}
 use Rattle.model.specs.HalfYear.{withDigits, halfYear}
 use Rattle.model.specs.Pattern.{Age, agesOf, cumulativeRatio}
 use Rattle.model.specs.Tail.{schedule}
@@ -31,5 +32,5 @@ unfolding cumulativeRatio
 taken = refl
 
 pub loses-twenty-three : AtMost 15 (getD (factors (halfYear 15) 10015 pay) 0 0 + 23) 1 (exactAt 15 0 pay)
-unfolding withDigits halfYear cumulativeRatio schedule factor factors exactRatio
+unfolding withDigits halfYear cumulativeRatio schedule factor factors exactRatio tenYear twoYear
 loses-twenty-three = leb-true _ _ refl

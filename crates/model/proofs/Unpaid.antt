@@ -49,7 +49,7 @@ after-age b (a ∷ given) t (suc k) d lt q =
     after-age (cumulativeRatio a) given t k d (omega arith) (and-right (leb b (cumulativeRatio a)) rest q)
 
 -- a ratio is at most a whole
-ratio-small : (a : Age) → isIncurred a ≡ true → cumulativeRatio a ≤ 100000000
+pub ratio-small : (a : Age) → isIncurred a ≡ true → cumulativeRatio a ≤ 100000000
 unfolding cumulativeRatio
 ratio-small a q =
     let i : 0 < a .incurred = ltb-true _ _ (and-left (ltb 0 (a .incurred)) (leb (a .paid) (a .incurred)) q) in

@@ -1,0 +1,9 @@
+pub mod Ages
+pub mod Judged
+pub mod Means
+pub mod Near
+pub mod Patterns
+pub mod Steps
+pub mod Table
+pub mod Tails
+pub mod Totals

@@ -1,0 +1,56 @@
+-- What `pattern` answers.
+-- Assumes nothing: these are definitions.
+use mathlib.Core.Path.{_≡_}
+use mathlib.Core.Bool.{true, _&&_}
+use mathlib.Core.List.{List, _++_}
+use Prim.Native.Nat.{ℕ, _-_}
+use lib.ListN.{length, take, getD, replicate}
+use Rattle.model.specs.Basics.{if_then_else_, all}
+use Rattle.model.specs.Kind.{isAmount}
+use Rattle.model.specs.Letter.{tenYear, ages}
+use Rattle.model.specs.Pattern.{agesOf}
+use Rattle.model.specs.Tail.{tenYearTail, twoYearTail, schedule}
+use Rattle.model.specs.Factor.{keptFactors}
+use Rattle.model.specs.Composite.{composite}
+use Rattle.model.specs.Call.{addPattern}
+use Rattle.model.specs.Question.{hasLengths, hasIncurred, climbs}
+use Rattle.factor.specs.declared.pattern.Pattern.{Pattern}
+use Rattle.factor.specs.declared.pattern.Verdict.{Verdict}
+use Rattle.factor.specs.declared.pattern.Verdict.the-variants.{Fine, Length, Limits, Incurred, Falls}
+
+-- what a refusal holds beside its verdict
+abbrev pub refused : Verdict → Pattern
+refused verdict = record { verdict = verdict; factors = replicate 10 0; composite = 0 }
+
+-- the kept factors, with zeros up to ten, and the composite, of the payments at all ages
+abbrev pub keptOf : ℕ → ℕ → List ℕ → Pattern
+keptOf letter rate pay = record { verdict = Fine; factors = keptFactors letter rate pay ++ replicate (10 - ages letter) 0; composite = composite letter rate pay }
+
+-- questions 11 and 12 of document 01, and the pattern. (The year of the call is not looked at.)
+abbrev pub judgedOf : ℕ → ℕ → List ℕ → List ℕ → Pattern
+judgedOf letter rate paid incurred =
+    if hasIncurred (addPattern letter 0 paid incurred)
+    then (if climbs (addPattern letter 0 paid incurred) then keptOf letter rate (schedule letter (agesOf paid incurred)) else refused Falls)
+    else refused Incurred
+
+-- questions 4 and 6 before them
+abbrev pub patternOf : ℕ → ℕ → List ℕ → List ℕ → Pattern
+patternOf letter rate paid incurred =
+    if hasLengths (addPattern letter 0 paid incurred)
+    then (if all isAmount paid && all isAmount incurred then judgedOf letter rate paid incurred else refused Limits)
+    else refused Length
+
+-- lists that questions 4 and 6 let through
+pub record Listed (letter : ℕ) (paid incurred : List ℕ) : Type 0 where
+  pub paid-length : length paid ≡ ages letter
+  pub incurred-length : length incurred ≡ ages letter
+  pub paid-amounts : all isAmount paid ≡ true
+  pub incurred-amounts : all isAmount incurred ≡ true
+
+-- how many ages a schedule has
+abbrev pub allAges : ℕ → ℕ
+allAges letter = if tenYear letter then 16 else 4
+
+-- the payments at the given ages, which stand first, and the tail
+abbrev pub tailed : ℕ → List ℕ → ℕ → List ℕ
+tailed letter pay unpaid = if tenYear letter then take 10 pay ++ tenYearTail (getD pay 9 0) unpaid else take 2 pay ++ twoYearTail unpaid

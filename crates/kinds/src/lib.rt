@@ -1,0 +1,8 @@
+// The kinds of value of document 01, each with its limits; and the letters of its lines.
+pub mod amount;
+pub mod closing;
+pub mod factor;
+pub mod letter;
+pub mod opening;
+pub mod rate;
+pub mod year;

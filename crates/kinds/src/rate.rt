@@ -1,0 +1,52 @@
+// "A rate is a whole number of hundredths of a percent, 0 to 2500."
+ghost use mathlib.Core.Path.{_≡_};
+ghost use Rattle.model.specs.Basics.{all};
+ghost use Rattle.model.specs.Kind.{isRate};
+ghost use Rattle.kinds.specs.Rate.{rateOf, rateNumber};
+
+pub struct Rate {
+    pub value: u64,
+}
+
+pub enum MaybeRate {
+    Within(Rate),
+    Outside,
+}
+
+impl Rate {
+    pub const MOST: u64 = 2500;
+
+    // The rate that n is, or that it is none.
+    pub fn new(n: u64) -> MaybeRate
+        ensures { λ r. ⌜ r ≡ rateOf n ⌝ }
+    {
+        if n <= Rate::MOST {
+            MaybeRate::Within(Rate { value: n })
+        } else {
+            MaybeRate::Outside
+        }
+    }
+
+    // Every Rate is within its limits: what lies past them is read as the limit.
+    pub fn number(self) -> u64
+        ensures { λ r. ⌜ r ≡ rateNumber self ⌝ }
+    {
+        let n = self.value;
+        if n <= Rate::MOST { n } else { Rate::MOST }
+    }
+
+    // Is every number of the list a rate?
+    pub fn all(list: &[u64]) -> bool
+        ensures { λ r. ⌜ r ≡ all isRate (now (list .entry)) ⌝ }
+    {
+        let mut i = 0;
+        while i < list.len() {
+            if list[i] <= Rate::MOST {
+                i += 1;
+            } else {
+                return false;
+            }
+        }
+        true
+    }
+}

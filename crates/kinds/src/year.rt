@@ -1,0 +1,43 @@
+// "Years are 1987 to 2099."
+ghost use mathlib.Core.Path.{_≡_};
+ghost use Rattle.kinds.specs.Year.{yearOf, yearNumber};
+
+pub struct Year {
+    pub value: u64,
+}
+
+pub enum MaybeYear {
+    Within(Year),
+    Outside,
+}
+
+impl Year {
+    pub const FIRST: u64 = 1987;
+
+    pub const LAST: u64 = 2099;
+
+    // The year that n is, or that it is none.
+    pub fn new(n: u64) -> MaybeYear
+        ensures { λ r. ⌜ r ≡ yearOf n ⌝ }
+    {
+        if n < Year::FIRST {
+            return MaybeYear::Outside;
+        }
+        if n <= Year::LAST {
+            MaybeYear::Within(Year { value: n })
+        } else {
+            MaybeYear::Outside
+        }
+    }
+
+    // Every Year is within its limits: what lies past them is read as the limit.
+    pub fn number(self) -> u64
+        ensures { λ r. ⌜ r ≡ yearNumber self ⌝ }
+    {
+        let n = self.value;
+        if n < Year::FIRST {
+            return Year::FIRST;
+        }
+        if n <= Year::LAST { n } else { Year::LAST }
+    }
+}
