@@ -4,6 +4,5 @@ pub mod Means
 pub mod Near
 pub mod Patterns
 pub mod Steps
-pub mod Table
 pub mod Tails
 pub mod Totals

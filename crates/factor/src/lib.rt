@@ -1,7 +1,5 @@
 // Rates, patterns and discount factors. `pattern` is the way in: the other modules are its steps, in document 01's order.
 mod composite;
-pub mod half_year;
-mod half_year_table;
 pub mod pattern;
 mod payment;
 pub mod published;

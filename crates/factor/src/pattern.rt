@@ -1,11 +1,11 @@
 // A pattern's kept factors and composite, from the lists of a pattern record.
 use crate::composite::mean_factor;
-use crate::half_year::half_year;
 use crate::payment::has_incurred;
 use crate::payment::payments;
 use crate::tail::ten_year_tail;
 use crate::tail::two_year_tail;
 use crate::walk::walk;
+use half_year::half_year;
 use kinds::amount::Amount;
 use kinds::letter;
 use kinds::rate::Rate;

@@ -9,6 +9,7 @@ use native.Mathlib.Nat.{eq-or-lt-of-le, le-of-suc-le-suc}
 use borrow.Author.Tests.{ne-eqb, lt-ltb, le-ltb}
 use lib.Dec.{eqb, leb, ltb}
 use Rattle.model.specs.Basics.{if_then_else_}
+use Rattle.model.proofs.Lists.{and-left, and-right}
 use Rattle.model.specs.Letter.{tenYear, twoYear, covered}
 
 -- the same answer
@@ -27,21 +28,13 @@ agreeBelow : (ℕ → Bool) → (ℕ → Bool) → ℕ → Bool
 agreeBelow f g zero = true
 agreeBelow f g (suc n) = agrees (f n) (g n) && agreeBelow f g n
 
-first : (a b : Bool) → a && b ≡ true → a ≡ true
-first true b e = refl
-first false b e = e
-
-second : (a b : Bool) → a && b ≡ true → b ≡ true
-second true b e = e
-second false b e = cc
-
 agree : (f g : ℕ → Bool) (n : ℕ) → agreeBelow f g n ≡ true → (b : ℕ) → b < n → f b ≡ g b
 unfolding agreeBelow
 agree f g zero e b lt = absurd (omega arith)
 agree f g (suc n) e b lt =
     ⊎-elim
-    (λ (z : b ≡ n). rw z (same (f n) (g n) (first (agrees (f n) (g n)) (agreeBelow f g n) e)))
-    (λ (l : b < n). agree f g n (second (agrees (f n) (g n)) (agreeBelow f g n) e) b l)
+    (λ (z : b ≡ n). rw z (same (f n) (g n) (and-left (agrees (f n) (g n)) (agreeBelow f g n) e)))
+    (λ (l : b < n). agree f g n (and-right (agrees (f n) (g n)) (agreeBelow f g n) e) b l)
     (eq-or-lt-of-le (le-of-suc-le-suc lt))
 
 -- R, or from A to H

@@ -4,5 +4,6 @@ pub mod closing;
 pub mod factor;
 pub mod letter;
 pub mod opening;
+pub mod paid;
 pub mod rate;
 pub mod year;

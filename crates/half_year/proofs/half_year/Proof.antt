@@ -1,11 +1,11 @@
--- `factor::half_year::half_year` meets its contract: there is one number with the square rule. Assumes nothing.
+-- `half_year::half_year` meets its contract: there is one number with the square rule. Assumes nothing.
 use mathlib.Core.Path.{ap, _∙_}
 use Prim.Native.Nat.{_+_}
 use borrow.Author.Needs.{needs}
 use Rattle.model.specs.HalfYear.{halfYear}
 use Rattle.model.proofs.HalfYear.{half-year-is, half-year-unique}
-use Rattle.factor.proofs.half_year.half_year.Statement.{statement}
-use Rattle.factor.proofs.half_year.half_year.Tie as tie
+use Rattle.half_year.proofs.half_year.Statement.{statement}
+use Rattle.half_year.proofs.half_year.Tie as tie
 
 number-requires : tie.Need-number-requires
 number-requires c κs = search needs

@@ -1,6 +1,8 @@
 // "The half-year factors stand in a printed table of 2,501 entries, one a rate."
-use crate::half_year_table::TABLE;
+mod table;
+
 use kinds::rate::Rate;
+use table::TABLE;
 ghost use mathlib.Core.Path.{_≡_};
 ghost use Prim.Native.Nat.{_+_, _≤_};
 ghost use Rattle.model.specs.HalfYear.{IsHalfYear, halfYear};

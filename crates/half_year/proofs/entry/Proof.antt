@@ -1,11 +1,11 @@
--- `factor::half_year::entry` meets its contract: the square rule is a test at each entry of the table, computed once over all.
+-- `half_year::entry` meets its contract: the square rule is a test at each entry of the table, computed once over all.
 -- Assumes nothing.
 use mathlib.Core.List.{List, [], _∷_}
 use Prim.Native.Nat.{ℕ}
 use borrow.Author.Needs.{needs}
-use Rattle.factor.proofs.Table.{rule}
-use Rattle.factor.proofs.half_year.entry.Statement.{statement}
-use Rattle.factor.proofs.half_year.entry.Tie as tie
+use Rattle.half_year.proofs.Entries.{rule}
+use Rattle.half_year.proofs.entry.Statement.{statement}
+use Rattle.half_year.proofs.entry.Tie as tie
 
 -- the table of the source
 table : List ℕ

@@ -1,0 +1,10 @@
+pub mod ClosingSum
+pub mod Closings
+pub mod Conjunctions
+pub mod Lists
+pub mod Losses
+pub mod Paids
+pub mod Sample
+pub mod Values
+pub mod Verdicts
+pub mod YearEnds

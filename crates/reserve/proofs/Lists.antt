@@ -1,0 +1,116 @@
+-- What questions 4 and 6, answered yes, say of the lists of a year: what the helpers of a year end ask, and how large the figures are.
+-- Assumes nothing.
+use mathlib.Core.Bool.{Bool, true, _&&_}
+use mathlib.Core.List.{List, [], _∷_}
+use mathlib.Core.Path.{_≡_, refl, ap}
+use Prim.Native.Nat.{ℕ, suc, _*_, _≤_, min}
+use native.Mathlib.Omega.{arith}
+use borrow.Author.Tests.{eqb-true, leb-true}
+use lib.Dec.{eqb}
+use lib.ListN.{length, getD}
+use lib.IntN.{ℤ, natAbs}
+use Rattle.model.specs.Basics.{all, sum, total}
+use Rattle.model.specs.Call.{closeYear}
+use Rattle.model.specs.Kind.{isAmount, isPaid}
+use Rattle.model.specs.Letter.{ages}
+use Rattle.model.specs.Published.{published}
+use Rattle.model.specs.Question.{hasLengths}
+use Rattle.model.specs.Row.{rowsOf, discounted}
+use Rattle.model.specs.YearEnd.{paidTotal}
+use Rattle.model.proofs.Lists.{and-left, and-right}
+use Rattle.model.proofs.Ages.{ages-small}
+use Rattle.kinds.proofs.Signed.{sum-size}
+use Rattle.reserve.specs.Row.{stated}
+use Rattle.reserve.specs.Closing.{discountedRows, closingAt}
+use Rattle.reserve.specs.Figures.{Figures}
+use Rattle.reserve.specs.Lists.{PaidList, ReserveLists, paidSum, statedRows}
+use Rattle.reserve.specs.YearEnd.{hasLimits}
+use Rattle.reserve.proofs.Values.{at-most-unpaid}
+
+-- ten thousand million for each row
+paid-size : (paid : List ℤ) → all isPaid paid ≡ true → natAbs (paidSum paid) ≤ 10000000000 * length paid
+paid-size [] e = omega arith
+paid-size (v ∷ paid) e =
+    omega (
+      arith,
+      sum-size v (paidSum paid),
+      leb-true (natAbs v) 10000000000 (and-left (isPaid v) (all isPaid paid) e),
+      paid-size paid (and-right (isPaid v) (all isPaid paid) e),
+    )
+
+closing-size : (factors : List ℕ) (k : ℕ) (unpaid tabular : List ℕ) → all isAmount unpaid ≡ true → sum (discountedRows factors k (statedRows unpaid tabular)) ≤ 10000000000 * length unpaid
+closing-size factors k [] tabular e = omega arith
+closing-size factors k (u ∷ unpaid) [] e = omega arith
+closing-size factors k (u ∷ unpaid) (t ∷ tabular) e =
+    omega (
+      arith,
+      at-most-unpaid (stated u t) (published (min (getD factors k 0) 10000000000)),
+      leb-true u 10000000000 (and-left (isAmount u) (all isAmount unpaid) e),
+      closing-size factors (suc k) unpaid tabular (and-right (isAmount u) (all isAmount unpaid) e),
+    )
+
+-- the same rows, but for what was paid
+paid-of-rows : (paid : List ℤ) (unpaid tabular : List ℕ) → length unpaid ≡ length paid → length tabular ≡ length paid → total (λ row. row .paid) (rowsOf paid unpaid tabular) ≡ paidSum paid
+paid-of-rows [] unpaid tabular eu et = refl
+paid-of-rows (v ∷ paid) [] tabular eu et = absurd (omega arith)
+paid-of-rows (v ∷ paid) (u ∷ unpaid) [] eu et = absurd (omega arith)
+paid-of-rows (v ∷ paid) (u ∷ unpaid) (t ∷ tabular) eu et = rw (paid-of-rows paid unpaid tabular (omega arith) (omega arith))
+
+discounted-of-rows : (factors : List ℕ) (k : ℕ) (paid : List ℤ) (unpaid tabular : List ℕ) → length unpaid ≡ length paid
+    → discountedRows factors k (rowsOf paid unpaid tabular) ≡ discountedRows factors k (statedRows unpaid tabular)
+unfolding discounted
+discounted-of-rows factors k [] [] tabular e = refl
+discounted-of-rows factors k [] (u ∷ unpaid) tabular e = absurd (omega arith)
+discounted-of-rows factors k (v ∷ paid) [] tabular e = absurd (omega arith)
+discounted-of-rows factors k (v ∷ paid) (u ∷ unpaid) [] e = refl
+discounted-of-rows factors k (v ∷ paid) (u ∷ unpaid) (t ∷ tabular) e = rw (discounted-of-rows factors (suc k) paid unpaid tabular (omega arith))
+
+count-of-rows : (paid : List ℤ) (unpaid tabular : List ℕ) → length unpaid ≡ length paid → length tabular ≡ length paid → length (rowsOf paid unpaid tabular) ≡ length paid
+count-of-rows [] unpaid tabular eu et = refl
+count-of-rows (v ∷ paid) [] tabular eu et = absurd (omega arith)
+count-of-rows (v ∷ paid) (u ∷ unpaid) [] eu et = absurd (omega arith)
+count-of-rows (v ∷ paid) (u ∷ unpaid) (t ∷ tabular) eu et = ap suc (count-of-rows paid unpaid tabular (omega arith) (omega arith))
+
+three : (a b c : Bool) → a && b && c ≡ true → (a ≡ true) × (b ≡ true) × (c ≡ true)
+three a b c e = (and-left a b (and-left (a && b) c e), and-right a b (and-left (a && b) c e), and-right (a && b) c e)
+
+module _ (letter : ℕ) (paid : List ℤ) (unpaid tabular : List ℕ) (lengths : hasLengths (closeYear letter 0 paid unpaid tabular) ≡ true) where
+  length-is : (length paid ≡ suc (ages letter)) × (length unpaid ≡ suc (ages letter)) × (length tabular ≡ suc (ages letter))
+  length-is =
+      let n = suc (ages letter) in
+      let t = three (eqb (length paid) n) (eqb (length unpaid) n) (eqb (length tabular) n) lengths in
+      (eqb-true (length paid) n (t .0), eqb-true (length unpaid) n (t .1), eqb-true (length tabular) n (t .2))
+
+  pub rows-count : length (rowsOf paid unpaid tabular) ≡ suc (ages letter)
+  rows-count = omega (arith, length-is, count-of-rows paid unpaid tabular (omega (arith, length-is)) (omega (arith, length-is)))
+
+  pub paid-total-is : paidTotal (rowsOf paid unpaid tabular) ≡ paidSum paid
+  unfolding paidTotal
+  paid-total-is = paid-of-rows paid unpaid tabular (omega (arith, length-is)) (omega (arith, length-is))
+
+  pub closing-is : (factors : List ℕ) → closingAt factors (rowsOf paid unpaid tabular) ≡ closingAt factors (statedRows unpaid tabular)
+  closing-is factors = ap sum (discounted-of-rows factors 0 paid unpaid tabular (omega (arith, length-is)))
+
+  module _ (limits : hasLimits paid unpaid tabular ≡ true) where
+    limits-are : (all isPaid paid ≡ true) × (all isAmount unpaid ≡ true) × (all isAmount tabular ≡ true)
+    limits-are = three (all isPaid paid) (all isAmount unpaid) (all isAmount tabular) limits
+
+    pub paid-list : PaidList paid
+    paid-list = record { few = omega (arith, length-is, ages-small letter); limits = limits-are .0 }
+
+    pub reserve-lists : ReserveLists unpaid tabular
+    reserve-lists =
+        record {
+          few = omega (arith, length-is, ages-small letter);
+          same = omega (arith, length-is);
+          unpaidLimits = limits-are .1;
+          tabularLimits = limits-are .2;
+        }
+
+    pub figures : (factors : List ℕ) (opening : ℕ) → opening ≤ 110000000000 → Figures (paidSum paid) (closingAt factors (statedRows unpaid tabular)) opening
+    figures factors opening h =
+        record {
+          paidLimit = omega (arith, paid-size paid (limits-are .0), length-is, ages-small letter);
+          closingLimit = omega (arith, closing-size factors 0 unpaid tabular (limits-are .1), length-is, ages-small letter);
+          openingLimit = h;
+        }

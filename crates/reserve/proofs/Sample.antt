@@ -1,0 +1,45 @@
+-- "TAX J 2015 50 0 43 93" and "TAX J 2016 40 43 8 5": the year ends of document 01's run, and P11 and P12 as rows.
+-- Assumes nothing.
+use mathlib.Core.List.{List, [], _∷_}
+use mathlib.Core.Path.{_≡_, refl}
+use Prim.Native.Nat.{ℕ}
+use lib.IntN.{pos, negsuc}
+use Rattle.model.specs.Letter.{tenYear, ages}
+use Rattle.model.specs.Row.{discounted}
+use Rattle.model.specs.YearEnd.{paidTotal}
+use Rattle.reserve.specs.Row.{stated}
+use Rattle.reserve.specs.YearEnd.{refused, yearEnd}
+use Rattle.reserve.specs.declared.year_end.Verdict.the-variants.{Fine, Length, Limits}
+
+-- the kept factors of the run's patterns
+abbrev kept : List ℕ
+kept = 8644963395 ∷ 8302028549 ∷ 9090909090 ∷ 0 ∷ 0 ∷ 0 ∷ 0 ∷ 0 ∷ 0 ∷ 0 ∷ 0 ∷ []
+
+pub first-year : yearEnd 74 (pos 50 ∷ pos 0 ∷ pos 0 ∷ []) (50 ∷ 0 ∷ 0 ∷ []) (0 ∷ 0 ∷ 0 ∷ []) kept 0 ≡ record { verdict = Fine; paid = pos 50; closing = 43; loss = pos 93 }
+unfolding yearEnd ages paidTotal discounted tenYear
+first-year = refl
+
+pub second-year : yearEnd 74 (pos 0 ∷ pos 40 ∷ pos 0 ∷ []) (0 ∷ 10 ∷ 0 ∷ []) (0 ∷ 0 ∷ 0 ∷ []) kept 43 ≡ record { verdict = Fine; paid = pos 40; closing = 8; loss = pos 5 }
+unfolding yearEnd ages paidTotal discounted tenYear
+second-year = refl
+
+-- a loss below zero, and both refusals
+pub below-zero : yearEnd 74 (negsuc 9 ∷ pos 0 ∷ pos 0 ∷ []) (0 ∷ 10 ∷ 0 ∷ []) (0 ∷ 0 ∷ 0 ∷ []) kept 43 ≡ record { verdict = Fine; paid = negsuc 9; closing = 8; loss = negsuc 44 }
+unfolding yearEnd ages paidTotal discounted tenYear
+below-zero = refl
+
+pub short : yearEnd 74 (pos 0 ∷ pos 0 ∷ []) (0 ∷ 0 ∷ 0 ∷ []) (0 ∷ 0 ∷ 0 ∷ []) kept 0 ≡ refused Length
+unfolding yearEnd ages tenYear
+short = refl
+
+pub past-limit : yearEnd 74 (pos 0 ∷ pos 0 ∷ negsuc 10000000000 ∷ []) (0 ∷ 0 ∷ 0 ∷ []) (0 ∷ 0 ∷ 0 ∷ []) kept 0 ≡ refused Limits
+unfolding yearEnd ages tenYear
+past-limit = refl
+
+pub capped-row : discounted (stated 30 10) 900000 ≡ 30
+unfolding discounted
+capped-row = refl
+
+pub discounted-row : discounted (stated 10000 1000) 850000 ≡ 9350
+unfolding discounted
+discounted-row = refl

@@ -1,0 +1,23 @@
+// Questions 4 and 6, put to the lists of a year.
+use kinds::amount::Amount;
+use kinds::letter::ages;
+use kinds::paid::Paid;
+ghost use mathlib.Core.Path.{_≡_};
+ghost use Rattle.model.specs.Call.{closeYear};
+ghost use Rattle.model.specs.Question.{hasLengths};
+ghost use Rattle.reserve.specs.YearEnd.{hasLimits};
+
+// "4. Is the count of fields right?": a number for each age, and one for the prior row, in each list.
+pub fn has_lengths(letter: u8, paid: &[i64], unpaid: &[u64], tabular: &[u64]) -> bool
+    ensures { λ r. ⌜ r ≡ hasLengths (closeYear letter 0 (now (paid .entry)) (now (unpaid .entry)) (now (tabular .entry))) ⌝ }
+{
+    let rows = ages(letter) + 1;
+    paid.len() == rows && unpaid.len() == rows && tabular.len() == rows
+}
+
+// "6. Is every number within its limits?"
+pub fn has_limits(paid: &[i64], unpaid: &[u64], tabular: &[u64]) -> bool
+    ensures { λ r. ⌜ r ≡ hasLimits (now (paid .entry)) (now (unpaid .entry)) (now (tabular .entry)) ⌝ }
+{
+    Paid::all(paid) && Amount::all(unpaid) && Amount::all(tabular)
+}
