@@ -14,7 +14,7 @@ use Rattle.model.specs.Book.{Book, Line}
 use Rattle.model.specs.YearEnd.{discountedRow}
 use Rattle.model.specs.Call.{Call, declare, setRate, addPattern, closeYear}
 use Rattle.model.specs.Answer.{Answer}
-use Rattle.model.specs.History.{Entry, listed, gather, orElse, lastOf, rateFrom, paymentsFrom, keptFrom, openingFrom, paidFrom, lossFrom, closedFrom, ratesIn, paymentsIn, keptIn, openingsIn, paidIn, lossesIn, closedIn}
+use Rattle.model.specs.History.{Entry, listed, gather, orElse, lastOf, rateFrom, paymentsFrom, keptFrom, declaredFrom, paidFrom, lossFrom, closedFrom, ratesIn, paymentsIn, keptIn, openingsIn, paidIn, lossesIn, closedIn}
 use Rattle.model.specs.Demand.{Given, PatternHolds, RowHolds, EntryHolds, rowYear, rowExact}
 use Rattle.model.proofs.Lists.{only, every-at-map}
 use Rattle.model.proofs.RowBound.{nothing-near}
@@ -56,9 +56,9 @@ module _ (h : List Entry) (e : Entry) where
   unfolding keptIn
   kept-with letter = gather-snoc (λ x. keptFrom letter (x .call) (x .later)) h e
 
-  pub openings-with : (letter : ℕ) → openingsIn (with h e) letter ≡ openingsIn h letter ++ listed (openingFrom letter (e .call))
+  pub openings-with : (letter : ℕ) → openingsIn (with h e) letter ≡ openingsIn h letter ++ listed (declaredFrom letter (e .call))
   unfolding openingsIn
-  openings-with letter = gather-snoc (λ x. openingFrom letter (x .call)) h e
+  openings-with letter = gather-snoc (λ x. declaredFrom letter (x .call)) h e
 
   pub closed-with : (letter : ℕ) → closedIn (with h e) letter ≡ orElse (closedFrom letter (e .answer)) (closedIn h letter)
   unfolding closedIn

@@ -12,7 +12,7 @@ use Rattle.model.specs.Factor.{keptFactors}
 use Rattle.model.specs.Composite.{composite}
 use Rattle.model.specs.Book.{Book, Line, Kept, latest}
 use Rattle.model.specs.YearEnd.{opening}
-use Rattle.model.specs.History.{Entry, listed, rateFrom, paymentsFrom, keptFrom, openingFrom, paidFrom, lossFrom, closedFrom, ratesIn, paymentsIn, keptIn, openingsIn, paidIn, lossesIn, closedIn}
+use Rattle.model.specs.History.{Entry, listed, rateFrom, paymentsFrom, keptFrom, declaredFrom, paidFrom, lossFrom, closedFrom, ratesIn, paymentsIn, keptIn, openingsIn, paidIn, lossesIn, closedIn}
 use Rattle.model.specs.Demand.{Given, EntryHolds}
 use Rattle.model.proofs.Lists.{every-map, every-snoc}
 use Rattle.model.proofs.Ages.{Sized}
@@ -53,7 +53,7 @@ pub record Invariant (h : List Entry) (b : Book) : Type 0 where
 
 -- an entry that says nothing of the line
 pub record Aside (e : Entry) (letter : ℕ) : Type 0 where
-  pub no-opening : openingFrom letter (e .call) ≡ none
+  pub no-opening : declaredFrom letter (e .call) ≡ none
   pub no-closing : closedFrom letter (e .answer) ≡ none
   pub no-payments : (year : ℕ) → paymentsFrom letter year (e .call) ≡ none
   pub no-kept : keptFrom letter (e .call) (e .later) ≡ none

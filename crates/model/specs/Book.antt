@@ -23,7 +23,7 @@ pub record Line : Type 0 where
   pub closed : Option Closed
   pub kept : List Kept
 
--- the book: each year's rate ("given once and stays"), each letter's line, and the counts of accepted and refused records
+-- the book: each year's rate ("one rate place for each year from 1987 to 2099": no other year passes question 6), each letter's line, and the counts of accepted and refused records
 pub record Book : Type 0 where
   pub rates : ℕ → Option ℕ
   pub lines : ℕ → Line

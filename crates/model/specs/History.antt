@@ -79,11 +79,11 @@ keptFrom l (addPattern letter year paid incurred) later = if eqb l letter then l
 keptFrom l (closeYear letter year paid unpaid tabular) later = none
 
 -- the opening that a call declares for the letter
-abbrev pub openingFrom : ℕ → Call → Option ℕ
-openingFrom l (declare letter opening) = if eqb l letter then some opening else none
-openingFrom l (setRate year months) = none
-openingFrom l (addPattern letter year paid incurred) = none
-openingFrom l (closeYear letter year paid unpaid tabular) = none
+abbrev pub declaredFrom : ℕ → Call → Option ℕ
+declaredFrom l (declare letter opening) = if eqb l letter then some opening else none
+declaredFrom l (setRate year months) = none
+declaredFrom l (addPattern letter year paid incurred) = none
+declaredFrom l (closeYear letter year paid unpaid tabular) = none
 
 -- the paid of all rows of a call that closes a year of the letter; 0 of any other
 abbrev pub paidFrom : ℕ → Call → ℤ
@@ -121,7 +121,7 @@ keptIn h l = gather (λ e. keptFrom l (e .call) (e .later)) h
 
 -- "The declared opening is that of the line's LINE.": the openings of all accepted LINEs of the letter
 unfoldable pub openingsIn : List Entry → ℕ → List ℕ
-openingsIn h l = gather (λ e. openingFrom l (e .call)) h
+openingsIn h l = gather (λ e. declaredFrom l (e .call)) h
 
 -- "Their payments are the sum of every paid in these records, prior rows too."
 unfoldable pub paidIn : List Entry → ℕ → ℤ
