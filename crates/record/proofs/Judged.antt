@@ -1,0 +1,218 @@
+-- The limits of each kind of call.
+-- Assumes nothing.
+use mathlib.Core.Bool.{Bool, true, false, _&&_, false≢true}
+use mathlib.Core.Path.{_≡_, refl, sym, _∙_}
+use mathlib.Core.List.{List, []}
+use Prim.Native.Nat.{ℕ, suc, _+_, _*_, _≤_, _<_}
+use native.Mathlib.Omega.{arith}
+use lib.IntN.{ℤ}
+use lib.ListN.{length, take, getD}
+use lib.Seq.{length-take-le}
+use Rattle.model.specs.Basics.{if_then_else_, all}
+use Rattle.model.specs.Kind.{isRate, isYear, isOpening, isAmount, isPaid}
+use Rattle.model.specs.Letter.{tenYear, ages}
+use Rattle.model.specs.Call.{Call, declare, setRate, addPattern, closeYear}
+use Rattle.model.specs.Record as model
+use Rattle.model.specs.Question.{isWithinLimits}
+use Rattle.model.proofs.Lists.{and-left, and-right}
+use Rattle.kinds.specs.declared.year.Year as the-year
+use Rattle.kinds.specs.declared.year.MaybeYear.{MaybeYear}
+use Rattle.kinds.specs.declared.year.MaybeYear.the-variants as year-is
+use Rattle.kinds.specs.declared.opening.Opening as the-opening
+use Rattle.kinds.specs.declared.opening.MaybeOpening.{MaybeOpening}
+use Rattle.kinds.specs.declared.opening.MaybeOpening.the-variants as opening-is
+use Rattle.record.specs.Word.{named}
+use Rattle.record.specs.Number.{most}
+use Rattle.record.specs.Column.{each, sizeAt, paidAt}
+use Rattle.record.specs.Request.{asks, empty, says}
+use Rattle.record.specs.Limits.{judged, callOf, Low, Judgeable}
+use Rattle.record.specs.declared.request.Request.{Request}
+use Rattle.record.specs.declared.request.Verdict.the-variants.{Limits}
+use Rattle.record.specs.declared.word.Word.{Word}
+use Rattle.record.specs.declared.word.Word.the-variants.{Line, Rate, Patt, Year, Other}
+
+-- how many ages there are
+ages-by : (t : Bool) → (if t then 10 else 2) ≤ 10
+ages-by true = omega arith
+ages-by false = omega arith
+
+pub ages-few : (letter : ℕ) → ages letter ≤ 10
+unfolding ages
+ages-few letter = ages-by (tenYear letter)
+
+-- a test of a kind, by the variant that it chose
+pub year-within : (p : Bool) (w a : the-year.Year) (x : MaybeYear) → x ≡ (if p then year-is.Within w else year-is.Outside) → x ≡ year-is.Within a → true ≡ p
+year-within true w a x ex e = refl
+year-within false w a x ex e = let z : _≡_ {A = ℕ} 0 1 = cc in absurd (omega arith)
+
+pub year-outside : (p : Bool) (w : the-year.Year) (x : MaybeYear) → x ≡ (if p then year-is.Within w else year-is.Outside) → x ≡ year-is.Outside → false ≡ p
+year-outside true w x ex e = let z : _≡_ {A = ℕ} 0 1 = cc in absurd (omega arith)
+year-outside false w x ex e = refl
+
+pub opening-within : (p : Bool) (w a : the-opening.Opening) (x : MaybeOpening) → x ≡ (if p then opening-is.Within w else opening-is.Outside) → x ≡ opening-is.Within a → true ≡ p
+opening-within true w a x ex e = refl
+opening-within false w a x ex e = let z : _≡_ {A = ℕ} 0 1 = cc in absurd (omega arith)
+
+pub opening-outside : (p : Bool) (w : the-opening.Opening) (x : MaybeOpening) → x ≡ (if p then opening-is.Within w else opening-is.Outside) → x ≡ opening-is.Outside → false ≡ p
+opening-outside true w x ex e = let z : _≡_ {A = ℕ} 0 1 = cc in absurd (omega arith)
+opening-outside false w x ex e = refl
+
+-- the first n of an array
+module _ {A : Type 0} (letter k : ℕ) (e : k ≡ ages letter) (list : List A) where
+  pub ages-in : length list ≡ 10 → k ≤ length list
+  ages-in l = omega (arith, ages-few letter)
+
+  pub ages-taken : length list ≡ 10 → k ≡ length (take k list)
+  ages-taken l = sym (length-take-le k list (ages-in l))
+
+  pub rows-in : length list ≡ 11 → k + 1 ≤ length list
+  rows-in l = omega (arith, ages-few letter)
+
+  pub rows-taken : length list ≡ 11 → k + 1 ≡ length (take (k + 1) list)
+  rows-taken l = sym (length-take-le (k + 1) list (rows-in l))
+
+pub ages-fit : (letter k : ℕ) → k ≡ ages letter → k ≤ 10
+ages-fit letter k e = omega (arith, ages-few letter)
+
+pub rows-fit : (letter k : ℕ) → k ≡ ages letter → k + 1 ≤ 11
+rows-fit letter k e = omega (arith, ages-few letter)
+
+pub low-fit : (letter k : ℕ) (sizes : List ℕ) → k ≡ ages letter → Low letter sizes → (k + 1 ≤ 11) × ((i : ℕ) → i < k + 1 → getD sizes (3 + i * 3) 0 ≤ most)
+low-fit letter k sizes e low = (omega (arith, ages-few letter), λ i lt. low i (omega arith))
+
+-- tests one after the other
+yes : (a b : Bool) → a ≡ true → b ≡ true → (a && b) ≡ true
+yes a b p q = rw (p, q)
+
+second-no : (y p : Bool) → p ≡ false → (y && p) ≡ false
+second-no true p e = e
+second-no false p e = refl
+
+third-no : (y p u t : Bool) → p ≡ false → (y && p && u && t) ≡ false
+third-no true p u t e = rw e
+third-no false p u t e = refl
+
+last-no : (y p q : Bool) → (p && q) ≡ false → (y && p && q) ≡ false
+last-no true p q e = e
+last-no false p q e = refl
+
+-- within its limits, or not
+inside : (call : Call) → isWithinLimits call ≡ true → asks call ≡ judged call
+inside call e = rw e
+
+outside : (q : Request) → q ≡ empty Limits → (call : Call) → isWithinLimits call ≡ false → says q ≡ judged call
+outside q eq call e = rw (eq, e)
+
+module _ (letter : ℕ) (sizes : List ℕ) (t : Bool) (et : t ≡ isOpening (getD sizes 2 0)) where
+  pub declare-is : t ≡ true → asks (declare letter (getD sizes 2 0)) ≡ judged (declare letter (getD sizes 2 0))
+  declare-is t1 = inside (declare letter (getD sizes 2 0)) (sym et ∙ t1)
+
+  pub declare-not : (q : Request) → q ≡ empty Limits → t ≡ false → says q ≡ judged (declare letter (getD sizes 2 0))
+  declare-not q eq t0 = outside q eq (declare letter (getD sizes 2 0)) (sym et ∙ t0)
+
+module _ (sizes : List ℕ) (a : Bool) (ea : a ≡ isYear (getD sizes 1 0)) where
+  pub rate-not-year : (q : Request) → q ≡ empty Limits → a ≡ false → says q ≡ judged (setRate (getD sizes 1 0) (each (sizeAt sizes) 60 1 2))
+  rate-not-year q eq a0 = outside q eq (setRate (getD sizes 1 0) (each (sizeAt sizes) 60 1 2)) (rw (sym ea ∙ a0))
+
+  module _ (a1 : a ≡ true) (months : List ℕ) (em : months ≡ each (sizeAt sizes) 60 1 2) (b : Bool) (eb : b ≡ all isRate months) where
+    pub rate-is : b ≡ true → asks (setRate (getD sizes 1 0) months) ≡ judged (setRate (getD sizes 1 0) (each (sizeAt sizes) 60 1 2))
+    rate-is b1 = rw em (inside (setRate (getD sizes 1 0) (each (sizeAt sizes) 60 1 2)) (yes (isYear (getD sizes 1 0)) (all isRate (each (sizeAt sizes) 60 1 2)) (sym ea ∙ a1) (rw em at (sym eb ∙ b1))))
+
+    pub rate-not : (q : Request) → q ≡ empty Limits → b ≡ false → says q ≡ judged (setRate (getD sizes 1 0) (each (sizeAt sizes) 60 1 2))
+    rate-not q eq b0 = outside q eq (setRate (getD sizes 1 0) (each (sizeAt sizes) 60 1 2)) (second-no (isYear (getD sizes 1 0)) (all isRate (each (sizeAt sizes) 60 1 2)) (rw em at (sym eb ∙ b0)))
+
+module _ (letter : ℕ) (minus : List Bool) (sizes : List ℕ) (a : Bool) (ea : a ≡ isYear (getD sizes 2 0)) where
+  pub pattern-not-year : (q : Request) → q ≡ empty Limits → a ≡ false → says q ≡ judged (callOf model.PATT letter minus sizes)
+  pattern-not-year q eq a0 = outside q eq (callOf model.PATT letter minus sizes) (rw (sym ea ∙ a0))
+
+  pub close-not-year : (q : Request) → q ≡ empty Limits → a ≡ false → says q ≡ judged (callOf model.YEAR letter minus sizes)
+  close-not-year q eq a0 = outside q eq (callOf model.YEAR letter minus sizes) (rw (sym ea ∙ a0))
+
+  module _ (a1 : a ≡ true) (k : ℕ) (ek : k ≡ ages letter) where
+    module _ (paid incurred : List ℕ) (ep : take k paid ≡ each (sizeAt sizes) k 2 3) (ei : take k incurred ≡ each (sizeAt sizes) k 2 4) (b : Bool) (eb : b ≡ (all isAmount (take k paid) && all isAmount (take k incurred))) where
+      pattern-paid : take (ages letter) paid ≡ each (sizeAt sizes) (ages letter) 2 3
+      pattern-paid = rw ek at ep
+
+      pattern-incurred : take (ages letter) incurred ≡ each (sizeAt sizes) (ages letter) 2 4
+      pattern-incurred = rw ek at ei
+
+      amounts : b ≡ (all isAmount (each (sizeAt sizes) (ages letter) 2 3) && all isAmount (each (sizeAt sizes) (ages letter) 2 4))
+      amounts = rw (ek, pattern-paid, pattern-incurred) at eb
+
+      pub pattern-is : b ≡ true → asks (addPattern letter (getD sizes 2 0) (take (ages letter) paid) (take (ages letter) incurred)) ≡ judged (callOf model.PATT letter minus sizes)
+      pattern-is b1 =
+          let both = sym amounts ∙ b1 in
+          rw (pattern-paid, pattern-incurred)
+          (inside (callOf model.PATT letter minus sizes)
+          (yes (isYear (getD sizes 2 0) && all isAmount (each (sizeAt sizes) (ages letter) 2 3)) (all isAmount (each (sizeAt sizes) (ages letter) 2 4))
+          (yes (isYear (getD sizes 2 0)) (all isAmount (each (sizeAt sizes) (ages letter) 2 3)) (sym ea ∙ a1) (and-left (all isAmount (each (sizeAt sizes) (ages letter) 2 3)) (all isAmount (each (sizeAt sizes) (ages letter) 2 4)) both))
+          (and-right (all isAmount (each (sizeAt sizes) (ages letter) 2 3)) (all isAmount (each (sizeAt sizes) (ages letter) 2 4)) both)))
+
+      pub pattern-not : (q : Request) → q ≡ empty Limits → b ≡ false → says q ≡ judged (callOf model.PATT letter minus sizes)
+      pattern-not q eq b0 =
+          outside q eq (callOf model.PATT letter minus sizes)
+          (last-no (isYear (getD sizes 2 0)) (all isAmount (each (sizeAt sizes) (ages letter) 2 3)) (all isAmount (each (sizeAt sizes) (ages letter) 2 4)) (sym amounts ∙ b0))
+
+    module _ (payments : List ℤ) (ep : take (k + 1) payments ≡ each (paidAt minus sizes) (k + 1) 3 3) (b : Bool) (eb : b ≡ all isPaid (take (k + 1) payments)) where
+      rows : k + 1 ≡ suc (ages letter)
+      rows = omega arith
+
+      year-paid : take (suc (ages letter)) payments ≡ each (paidAt minus sizes) (suc (ages letter)) 3 3
+      year-paid = rw rows at ep
+
+      paids : b ≡ all isPaid (each (paidAt minus sizes) (suc (ages letter)) 3 3)
+      paids = rw (rows, year-paid) at eb
+
+      pub close-not-paid : (q : Request) → q ≡ empty Limits → b ≡ false → says q ≡ judged (callOf model.YEAR letter minus sizes)
+      close-not-paid q eq b0 =
+          outside q eq (callOf model.YEAR letter minus sizes)
+          (third-no (isYear (getD sizes 2 0)) (all isPaid (each (paidAt minus sizes) (suc (ages letter)) 3 3)) (all isAmount (each (sizeAt sizes) (suc (ages letter)) 3 4)) (all isAmount (each (sizeAt sizes) (suc (ages letter)) 3 5)) (sym paids ∙ b0))
+
+      module _ (b1 : b ≡ true) (unpaid tabular : List ℕ) (eu : take (k + 1) unpaid ≡ each (sizeAt sizes) (k + 1) 3 4) (et : take (k + 1) tabular ≡ each (sizeAt sizes) (k + 1) 3 5) (d : Bool) (ed : d ≡ (all isAmount (take (k + 1) unpaid) && all isAmount (take (k + 1) tabular))) where
+        year-unpaid : take (suc (ages letter)) unpaid ≡ each (sizeAt sizes) (suc (ages letter)) 3 4
+        year-unpaid = rw rows at eu
+
+        year-tabular : take (suc (ages letter)) tabular ≡ each (sizeAt sizes) (suc (ages letter)) 3 5
+        year-tabular = rw rows at et
+
+        year-amounts : d ≡ (all isAmount (each (sizeAt sizes) (suc (ages letter)) 3 4) && all isAmount (each (sizeAt sizes) (suc (ages letter)) 3 5))
+        year-amounts = rw (rows, year-unpaid, year-tabular) at ed
+
+        front : (isYear (getD sizes 2 0) && all isPaid (each (paidAt minus sizes) (suc (ages letter)) 3 3)) ≡ true
+        front = yes (isYear (getD sizes 2 0)) (all isPaid (each (paidAt minus sizes) (suc (ages letter)) 3 3)) (sym ea ∙ a1) (sym paids ∙ b1)
+
+        pub close-is : d ≡ true
+            → asks (closeYear letter (getD sizes 2 0) (take (suc (ages letter)) payments) (take (suc (ages letter)) unpaid) (take (suc (ages letter)) tabular)) ≡ judged (callOf model.YEAR letter minus sizes)
+        close-is d1 =
+            let both = sym year-amounts ∙ d1 in
+            rw (year-paid, year-unpaid, year-tabular)
+            (inside (callOf model.YEAR letter minus sizes)
+            (yes (isYear (getD sizes 2 0) && all isPaid (each (paidAt minus sizes) (suc (ages letter)) 3 3) && all isAmount (each (sizeAt sizes) (suc (ages letter)) 3 4)) (all isAmount (each (sizeAt sizes) (suc (ages letter)) 3 5))
+            (yes (isYear (getD sizes 2 0) && all isPaid (each (paidAt minus sizes) (suc (ages letter)) 3 3)) (all isAmount (each (sizeAt sizes) (suc (ages letter)) 3 4)) front (and-left (all isAmount (each (sizeAt sizes) (suc (ages letter)) 3 4)) (all isAmount (each (sizeAt sizes) (suc (ages letter)) 3 5)) both))
+            (and-right (all isAmount (each (sizeAt sizes) (suc (ages letter)) 3 4)) (all isAmount (each (sizeAt sizes) (suc (ages letter)) 3 5)) both)))
+
+        pub close-not : (q : Request) → q ≡ empty Limits → d ≡ false → says q ≡ judged (callOf model.YEAR letter minus sizes)
+        close-not q eq d0 =
+            outside q eq (callOf model.YEAR letter minus sizes)
+            (last-no (isYear (getD sizes 2 0) && all isPaid (each (paidAt minus sizes) (suc (ages letter)) 3 3)) (all isAmount (each (sizeAt sizes) (suc (ages letter)) 3 4)) (all isAmount (each (sizeAt sizes) (suc (ages letter)) 3 5)) (sym year-amounts ∙ d0))
+
+-- each word's call
+module _ (word : Word) (letter : ℕ) (minus : List Bool) (sizes : List ℕ) where
+  pub judge-low : Judgeable (named word) letter sizes → word ≡ Year → Low letter sizes
+  judge-low j e = j .low (rw e)
+
+  module _ (q : Request) where
+    pub judge-line : word ≡ Line → says q ≡ judged (callOf model.LINE letter [] sizes) → says q ≡ judged (callOf (named word) letter minus sizes)
+    judge-line e h = rw e h
+
+    pub judge-rate : word ≡ Rate → says q ≡ judged (callOf model.RATE 0 [] sizes) → says q ≡ judged (callOf (named word) letter minus sizes)
+    judge-rate e h = rw e h
+
+    pub judge-pattern : word ≡ Patt → says q ≡ judged (callOf model.PATT letter [] sizes) → says q ≡ judged (callOf (named word) letter minus sizes)
+    judge-pattern e h = rw e h
+
+    pub judge-year : word ≡ Year → says q ≡ judged (callOf model.YEAR letter minus sizes) → says q ≡ judged (callOf (named word) letter minus sizes)
+    judge-year e h = rw e h
+
+    pub judge-other : Judgeable (named word) letter sizes → word ≡ Other → says q ≡ judged (callOf (named word) letter minus sizes)
+    judge-other j e = absurd (false≢true (rw e at (j .known)))

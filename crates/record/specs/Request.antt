@@ -1,0 +1,61 @@
+-- What a line says, and what the reader's answer says.
+-- Assumes nothing: these are definitions.
+use mathlib.Core.List.{List}
+use mathlib.Core.Option.{Option, none, some}
+use Prim.Native.Nat.{ℕ, suc}
+use lib.IntN.{pos}
+use lib.ListN.{take, replicate}
+use Rattle.model.specs.Letter.{ages}
+use Rattle.model.specs.Call.{Call, declare, setRate, addPattern, closeYear}
+use Rattle.model.specs.Field.{fields, field}
+use Rattle.model.specs.Record.{wordOf, callFrom}
+use Rattle.model.specs.Question.{lineQuestions, firstNo}
+use Rattle.record.specs.declared.request.Request.{Request}
+use Rattle.record.specs.declared.request.Verdict.{Verdict}
+use Rattle.record.specs.declared.request.Verdict.the-variants.{Long, Word, Letter, Count, Writing, Limits, Declare, SetRate, AddPattern, CloseYear}
+
+-- "A "no" refuses with that question's number."; or the call that is asked
+pub data Read : Type 0 where
+  refusedAt : ℕ → Read
+  asks : Call → Read
+
+abbrev pub answered : Option ℕ → Call → Read
+answered none call = asks call
+answered (some question) call = refusedAt question
+
+-- what the line says
+unfoldable pub readOf : List ℕ → Read
+readOf line = answered (firstNo (lineQuestions line)) (callFrom (wordOf (field 0 (fields line))) (fields line))
+
+-- a verdict and nothing else
+abbrev pub empty : Verdict → Request
+empty verdict =
+    record {
+      verdict = verdict;
+      letter = 0;
+      opening = 0;
+      year = 0;
+      months = replicate 60 0;
+      paid = replicate 10 0;
+      incurred = replicate 10 0;
+      payments = replicate 11 (pos 0);
+      unpaid = replicate 11 0;
+      tabular = replicate 11 0;
+    }
+
+-- each case's number in document 01, or its call: of a line's ages, ten or two, and one row more
+abbrev pub saying : Verdict → Request → Read
+saying Long r = refusedAt 1
+saying Word r = refusedAt 2
+saying Letter r = refusedAt 3
+saying Count r = refusedAt 4
+saying Writing r = refusedAt 5
+saying Limits r = refusedAt 6
+saying Declare r = asks (declare (r .letter) (r .opening))
+saying SetRate r = asks (setRate (r .year) (r .months))
+saying AddPattern r = asks (addPattern (r .letter) (r .year) (take (ages (r .letter)) (r .paid)) (take (ages (r .letter)) (r .incurred)))
+saying CloseYear r =
+    asks (closeYear (r .letter) (r .year) (take (suc (ages (r .letter))) (r .payments)) (take (suc (ages (r .letter))) (r .unpaid)) (take (suc (ages (r .letter))) (r .tabular)))
+
+abbrev pub says : Request → Read
+says r = saying (r .verdict) r

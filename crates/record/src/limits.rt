@@ -1,0 +1,179 @@
+// "Is every number within its limits? The limits belong to their kind: a rate, a year, an amount.": the call that the numbers of a line make.
+use crate::column::by_age;
+use crate::column::by_row;
+use crate::column::months;
+use crate::column::payments;
+use crate::request::Request;
+use crate::request::Verdict;
+use crate::request::refused;
+use crate::word::Word;
+use kinds::amount::Amount;
+use kinds::letter::ages;
+use kinds::opening::MaybeOpening;
+use kinds::opening::Opening;
+use kinds::paid::Paid;
+use kinds::rate::Rate;
+use kinds::year::MaybeYear;
+use kinds::year::Year;
+ghost use mathlib.Core.Path.{_≡_};
+ghost use mathlib.Core.Bool.{_&&_};
+ghost use mathlib.Core.List.{[]};
+ghost use Rattle.model.specs.Basics.{all};
+ghost use Rattle.model.specs.Kind.{isYear, isOpening, isAmount};
+ghost use Rattle.model.specs.Record.{LINE, RATE, PATT, YEAR};
+ghost use Rattle.record.specs.Word.{named};
+ghost use Rattle.record.specs.Request.{says};
+ghost use Rattle.record.specs.Limits.{judged, callOf, Low, Judgeable};
+
+// "Years are 1987 to 2099."
+pub fn is_year(n: u64) -> bool
+    ensures { λ r. ⌜ r ≡ isYear n ⌝ }
+{
+    match Year::new(n) {
+        MaybeYear::Within(_) => true,
+        MaybeYear::Outside => false,
+    }
+}
+
+// "opening (0 to 100,000,000,000)"
+pub fn is_opening(n: u64) -> bool
+    ensures { λ r. ⌜ r ≡ isOpening n ⌝ }
+{
+    match Opening::new(n) {
+        MaybeOpening::Within(_) => true,
+        MaybeOpening::Outside => false,
+    }
+}
+
+// "Other money is 0 to 10,000,000,000": that of two columns.
+pub fn are_amounts(a: &[u64], b: &[u64]) -> bool
+    ensures { λ r. ⌜ r ≡ (all isAmount (now (a .entry)) && all isAmount (now (b .entry))) ⌝ }
+{
+    if Amount::all(a) {
+        return Amount::all(b);
+    }
+    false
+}
+
+// "LINE, letter, opening"
+pub fn declare(letter: u8, sizes: [u64; 62]) -> Request
+    ensures { λ r. ⌜ says r ≡ judged (callOf LINE letter [] sizes) ⌝ }
+{
+    let opening = sizes[2];
+    if is_opening(opening) {
+        return Request {
+            verdict: Verdict::Declare,
+            letter,
+            opening,
+            year: 0,
+            months: [0; 60],
+            paid: [0; 10],
+            incurred: [0; 10],
+            payments: [0; 11],
+            unpaid: [0; 11],
+            tabular: [0; 11],
+        };
+    }
+    refused(Verdict::Limits)
+}
+
+// "RATE, year, sixty rates"
+pub fn set_rate(sizes: [u64; 62]) -> Request
+    ensures { λ r. ⌜ says r ≡ judged (callOf RATE 0 [] sizes) ⌝ }
+{
+    let year = sizes[1];
+    if is_year(year) {
+        let months = months(sizes);
+        if Rate::all(&months) {
+            return Request {
+                verdict: Verdict::SetRate,
+                letter: 0,
+                opening: 0,
+                year,
+                months,
+                paid: [0; 10],
+                incurred: [0; 10],
+                payments: [0; 11],
+                unpaid: [0; 11],
+                tabular: [0; 11],
+            };
+        }
+        return refused(Verdict::Limits);
+    }
+    refused(Verdict::Limits)
+}
+
+// "PATT, letter, year, then paid and incurred an age"
+pub fn add_pattern(letter: u8, sizes: [u64; 62]) -> Request
+    ensures { λ r. ⌜ says r ≡ judged (callOf PATT letter [] sizes) ⌝ }
+{
+    let year = sizes[2];
+    if is_year(year) {
+        let n = ages(letter);
+        let paid = by_age(sizes, 3, n);
+        let incurred = by_age(sizes, 4, n);
+        if are_amounts(&paid[..n], &incurred[..n]) {
+            return Request {
+                verdict: Verdict::AddPattern,
+                letter,
+                opening: 0,
+                year,
+                months: [0; 60],
+                paid,
+                incurred,
+                payments: [0; 11],
+                unpaid: [0; 11],
+                tabular: [0; 11],
+            };
+        }
+        return refused(Verdict::Limits);
+    }
+    refused(Verdict::Limits)
+}
+
+// "YEAR, letter, year, then paid, unpaid, tabular for each age, prior row last"
+pub fn close_year(letter: u8, minus: [bool; 62], sizes: [u64; 62]) -> Request
+    requires { ⌜ Low letter sizes ⌝ }
+    ensures { λ r. ⌜ says r ≡ judged (callOf YEAR letter minus sizes) ⌝ }
+{
+    let year = sizes[2];
+    if is_year(year) {
+        let n = ages(letter) + 1;
+        let payments = payments(minus, sizes, n);
+        let unpaid = by_row(sizes, 4, n);
+        let tabular = by_row(sizes, 5, n);
+        if Paid::all(&payments[..n]) {
+            if are_amounts(&unpaid[..n], &tabular[..n]) {
+                return Request {
+                    verdict: Verdict::CloseYear,
+                    letter,
+                    opening: 0,
+                    year,
+                    months: [0; 60],
+                    paid: [0; 10],
+                    incurred: [0; 10],
+                    payments,
+                    unpaid,
+                    tabular,
+                };
+            }
+            return refused(Verdict::Limits);
+        }
+        return refused(Verdict::Limits);
+    }
+    refused(Verdict::Limits)
+}
+
+// Question 6, and the call.
+pub fn judge(word: Word, letter: u8, minus: [bool; 62], sizes: [u64; 62]) -> Request
+    requires { ⌜ Judgeable (named word) letter sizes ⌝ }
+    ensures { λ r. ⌜ says r ≡ judged (callOf (named word) letter minus sizes) ⌝ }
+{
+    match word {
+        Word::Line => declare(letter, sizes),
+        Word::Rate => set_rate(sizes),
+        Word::Patt => add_pattern(letter, sizes),
+        Word::Year => close_year(letter, minus, sizes),
+        Word::Other => refused(Verdict::Word),
+    }
+}
