@@ -1,0 +1,51 @@
+-- `test_records::print::signed_numbers` meets its contract. Assumes nothing.
+use Prim.Native.Nat.{_-_}
+use lib.ListN.{length}
+use borrow.Author.Needs.{needs}
+use Rattle.test_records.proofs.print.signed_numbers.Statement.{statement}
+use Rattle.test_records.proofs.print.signed_numbers.Tie as tie
+
+abbrev Inv-loop : tie.InvT-loop
+Inv-loop list i₀ i = Unit {0}
+
+abbrev μ-loop : tie.MeasureT-loop
+μ-loop list i₀ i = length list - i
+
+loop-holds : tie.Need-loop-holds Inv-loop μ-loop
+loop-holds c = search needs
+
+mul-signed-number : tie.Need-mul-signed-number Inv-loop μ-loop
+mul-signed-number c = search needs
+
+shared-slice-copy-out-signed-number : tie.Need-shared-slice-copy-out-signed-number Inv-loop μ-loop
+shared-slice-copy-out-signed-number c = search needs
+
+signed-number-requires : tie.Need-signed-number-requires Inv-loop μ-loop
+signed-number-requires c κs = search needs
+
+add-i : tie.Need-add-i Inv-loop μ-loop
+add-i c = search needs
+
+loop-less : tie.Need-loop-less Inv-loop μ-loop
+loop-less c = search needs
+
+loop-again : tie.Need-loop-again Inv-loop μ-loop
+loop-again c = search needs
+
+returns : tie.Need-returns Inv-loop μ-loop
+returns c = search needs
+
+pub signed-numbers-spec : {M : Type 1} → statement M
+signed-numbers-spec =
+    tie.close
+    (tie.spec
+    Inv-loop
+    μ-loop
+    loop-holds
+    mul-signed-number
+    shared-slice-copy-out-signed-number
+    signed-number-requires
+    add-i
+    loop-less
+    loop-again
+    returns)
