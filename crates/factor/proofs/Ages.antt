@@ -12,14 +12,14 @@ use lib.ListN.{length, take, drop, getD, set, drop-of-length-le, length-set}
 use lib.Seq.{take-suc-set, append-snoc}
 use Rattle.model.specs.Basics.{all, lastOr}
 use Rattle.model.specs.Kind.{isAmount}
-use Rattle.model.specs.Pattern.{Age, agesOf, cumulativeRatio, cumulative, payments}
+use Rattle.model.specs.Pattern.{age, Age, agesOf, cumulativeRatio, cumulative, payments}
 use Rattle.model.specs.Question.{isIncurred, climbsFrom}
 use Rattle.model.proofs.Lists.{true≢false, and-left, and-right, all-at, drop-next}
 use Rattle.model.proofs.Unpaid.{ratio-small}
 use Rattle.model.proofs.Ages.{length-ages-of}
 use Rattle.kinds.proofs.All
 use Rattle.kinds.proofs.All.{Passing}
-use Rattle.factor.specs.Ratio.{Sound, age}
+use Rattle.factor.specs.Ratio.{Sound}
 use Rattle.factor.specs.Payment.{Paired, Payable, Paid}
 
 -- an age of the two lists

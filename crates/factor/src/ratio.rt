@@ -1,7 +1,7 @@
 // The cumulative ratio of an age.
 ghost use mathlib.Core.Path.{_≡_};
-ghost use Rattle.model.specs.Pattern.{cumulativeRatio};
-ghost use Rattle.factor.specs.Ratio.{Sound, age};
+ghost use Rattle.model.specs.Pattern.{age, cumulativeRatio};
+ghost use Rattle.factor.specs.Ratio.{Sound};
 
 // "The cumulative ratio is paid × 100,000,000 / incurred, rounded half up."
 pub fn cumulative_ratio(paid: u64, incurred: u64) -> u64

@@ -2,22 +2,14 @@
 -- Assumes nothing: these are definitions.
 use mathlib.Core.Path.{_≡_}
 use mathlib.Core.List.{[], _∷_, _++_}
-use Prim.Native.Nat.{ℕ}
 use Prim.Native.Char.{code}
 use lib.ListN.{replicate}
-use lib.IntN.{pos}
 use Rattle.model.specs.Rate.{rateOf}
 use Rattle.model.specs.HalfYear.{halfYear}
-use Rattle.model.specs.Pattern.{Age, agesOf, cumulativeRatio}
+use Rattle.model.specs.Pattern.{age, agesOf, cumulativeRatio}
 use Rattle.model.specs.Tail.{tenYearTail, schedule}
 use Rattle.model.specs.Factor.{keptFactors}
-use Rattle.model.specs.Row.{Row, discounted}
-
-abbrev pub age : ℕ → ℕ → Age
-age paid incurred = record { paid = paid; incurred = incurred }
-
-abbrev pub reserve : ℕ → ℕ → Row
-reserve unpaid tabular = record { paid = pos 0; unpaid = unpaid; tabular = tabular }
+use Rattle.model.specs.Row.{stated, discounted}
 
 pub record Facts : Type 0 where
   pub p1 : halfYear 0 ≡ 10000000000
@@ -31,7 +23,7 @@ pub record Facts : Type 0 where
   pub p8 : tenYearTail 4000000 14000000 ≡ 4000000 ∷ 4000000 ∷ 4000000 ∷ 2000000 ∷ 0 ∷ 0 ∷ []
   pub p9 : tenYearTail 4000000 40000000 ≡ 4000000 ∷ 4000000 ∷ 4000000 ∷ 4000000 ∷ 4000000 ∷ 20000000 ∷ []
   pub p10 : tenYearTail 0 10000000 ≡ 0 ∷ 0 ∷ 0 ∷ 0 ∷ 0 ∷ 10000000 ∷ []
-  pub p11 : discounted (reserve 30 10) 900000 ≡ 30
-  pub p12 : discounted (reserve 10000 1000) 850000 ≡ 9350
+  pub p11 : discounted (stated 30 10) 900000 ≡ 30
+  pub p12 : discounted (stated 10000 1000) 850000 ≡ 9350
   -- "kept factors of the run"
   pub p13 : keptFactors (code "J") 2100 (schedule (code "J") (agesOf (50 ∷ 90 ∷ []) (100 ∷ 100 ∷ []))) ≡ 8644963395 ∷ 8302028549 ∷ []

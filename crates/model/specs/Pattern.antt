@@ -9,11 +9,14 @@ pub record Age : Type 0 where
   pub paid : ℕ
   pub incurred : ℕ
 
+abbrev pub age : ℕ → ℕ → Age
+age paid incurred = record { paid = paid; incurred = incurred }
+
 -- the ages of a list of paid and a list of incurred
 abbrev pub agesOf : List ℕ → List ℕ → List Age
 agesOf [] incurred = []
 agesOf (p ∷ paid) [] = []
-agesOf (p ∷ paid) (i ∷ incurred) = record { paid = p; incurred = i } ∷ agesOf paid incurred
+agesOf (p ∷ paid) (i ∷ incurred) = age p i ∷ agesOf paid incurred
 
 -- "The cumulative ratio is paid × 100,000,000 / incurred, rounded half up."
 unfoldable pub cumulativeRatio : Age → ℕ

@@ -8,7 +8,8 @@ use Prim.Native.Nat.{ℕ}
 use native.Mathlib.Omega.{arith}
 use Rattle.model.specs.Call.{Call}
 use Rattle.model.specs.Field.{fields, field}
-use Rattle.model.specs.Record.{wordOf, callFrom}
+use Rattle.model.specs.Record.{wordOf}
+use Rattle.model.specs.Step.{callOf}
 use Rattle.model.specs.Question.{hasLetter, hasLengths, isWithinLimits, lineQuestions, firstNo}
 use Rattle.model.proofs.Lists.{all-yes}
 use Rattle.model.proofs.Lengths.{lengths-right}
@@ -27,16 +28,16 @@ answered-no (some k) call q e = cc
 
 pub refused-is : (line : List ℕ) (q : ℕ) → readOf line ≡ refusedAt q → firstNo (lineQuestions line) ≡ some q
 unfolding readOf
-refused-is line q e = answered-no (firstNo (lineQuestions line)) (callFrom (wordOf (field 0 (fields line))) (fields line)) q e
+refused-is line q e = answered-no (firstNo (lineQuestions line)) (callOf line) q e
 
 -- no question is answered no, and the call is the one that the line makes
 answered-yes : (o : Option ℕ) (call c : Call) → answered o call ≡ asks c → (o ≡ none) × (c ≡ call)
 answered-yes none call c e = (refl, cc)
 answered-yes (some k) call c e = let z : _≡_ {A = ℕ} 0 1 = cc in absurd (omega arith)
 
-pub asked-is : (line : List ℕ) (call : Call) → readOf line ≡ asks call → (firstNo (lineQuestions line) ≡ none) × (call ≡ callFrom (wordOf (field 0 (fields line))) (fields line))
+pub asked-is : (line : List ℕ) (call : Call) → readOf line ≡ asks call → (firstNo (lineQuestions line) ≡ none) × (call ≡ callOf line)
 unfolding readOf
-asked-is line call e = answered-yes (firstNo (lineQuestions line)) (callFrom (wordOf (field 0 (fields line))) (fields line)) call e
+asked-is line call e = answered-yes (firstNo (lineQuestions line)) (callOf line) call e
 
 -- what is asked has a covered letter, lists of the right lengths, and numbers within their limits
 pub record Sound (call : Call) : Type 0 where

@@ -7,8 +7,7 @@ use lib.IntN.{pos}
 use lib.ListN.{take, replicate}
 use Rattle.model.specs.Letter.{ages}
 use Rattle.model.specs.Call.{Call, declare, setRate, addPattern, closeYear}
-use Rattle.model.specs.Field.{fields, field}
-use Rattle.model.specs.Record.{wordOf, callFrom}
+use Rattle.model.specs.Step.{callOf}
 use Rattle.model.specs.Question.{lineQuestions, firstNo}
 use Rattle.record.specs.declared.request.Request.{Request}
 use Rattle.record.specs.declared.request.Verdict.{Verdict}
@@ -25,7 +24,7 @@ answered (some question) call = refusedAt question
 
 -- what the line says
 unfoldable pub readOf : List ℕ → Read
-readOf line = answered (firstNo (lineQuestions line)) (callFrom (wordOf (field 0 (fields line))) (fields line))
+readOf line = answered (firstNo (lineQuestions line)) (callOf line)
 
 -- a verdict and nothing else
 abbrev pub empty : Verdict → Request

@@ -13,9 +13,8 @@ use mir.Val.{Fits}
 use Rattle.model.specs.Basics.{sum}
 use Rattle.model.specs.Kind.{isAmount}
 use Rattle.model.specs.Published.{published}
-use Rattle.model.specs.Row.{discounted}
+use Rattle.model.specs.Row.{discounted, stated}
 use Rattle.model.proofs.Lists.{all-at}
-use Rattle.reserve.specs.Row.{stated}
 use Rattle.reserve.specs.Lists.{ReserveLists, statedRows}
 use Rattle.reserve.specs.Closing.{discountedRows, closingAt}
 use Rattle.reserve.proofs.Values.{at-most-unpaid}

@@ -15,12 +15,11 @@ use Rattle.model.specs.Kind.{isAmount, isPaid}
 use Rattle.model.specs.Letter.{ages}
 use Rattle.model.specs.Published.{published}
 use Rattle.model.specs.Question.{hasLengths}
-use Rattle.model.specs.Row.{rowsOf, discounted}
+use Rattle.model.specs.Row.{rowsOf, discounted, stated}
 use Rattle.model.specs.YearEnd.{paidTotal}
 use Rattle.model.proofs.Lists.{and-left, and-right}
 use Rattle.model.proofs.Ages.{ages-small}
 use Rattle.kinds.proofs.Signed.{sum-size}
-use Rattle.reserve.specs.Row.{stated}
 use Rattle.reserve.specs.Closing.{discountedRows, closingAt}
 use Rattle.reserve.specs.Figures.{Figures}
 use Rattle.reserve.specs.Lists.{PaidList, ReserveLists, paidSum, statedRows}

@@ -5,9 +5,8 @@ use mathlib.Core.Path.{_≡_, refl}
 use Prim.Native.Nat.{ℕ}
 use lib.IntN.{pos, negsuc}
 use Rattle.model.specs.Letter.{tenYear, ages}
-use Rattle.model.specs.Row.{discounted}
+use Rattle.model.specs.Row.{discounted, stated}
 use Rattle.model.specs.YearEnd.{paidTotal}
-use Rattle.reserve.specs.Row.{stated}
 use Rattle.reserve.specs.YearEnd.{refused, yearEnd}
 use Rattle.reserve.specs.declared.year_end.Verdict.the-variants.{Fine, Length, Limits}
 

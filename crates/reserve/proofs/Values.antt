@@ -5,8 +5,7 @@ use Prim.Native.Nat.{ℕ, _+_, _*_, _/_, _≤_, _<_}
 use native.Mathlib.Omega.{arith}
 use native.Mathlib.Nat.{mul-le-mul}
 use Rattle.model.specs.Published.{published}
-use Rattle.model.specs.Row.{Row, discounted}
-use Rattle.reserve.specs.Row.{stated}
+use Rattle.model.specs.Row.{Row, discounted, stated}
 
 pub product : (g p : ℕ) → g ≤ 20000000000 → p ≤ 1000000 → g * p ≤ 20000000000000000
 product g p hg hp = mul-le-mul hg hp

@@ -8,8 +8,7 @@ use lib.ListN.{length}
 use lib.IntN.{ℤ}
 use Rattle.model.specs.Basics.{all, total}
 use Rattle.model.specs.Kind.{isAmount, isPaid}
-use Rattle.model.specs.Row.{Row}
-use Rattle.reserve.specs.Row.{stated}
+use Rattle.model.specs.Row.{Row, stated}
 
 pub record PaidList (paid : List ℤ) : Type 0 where
   pub few : length paid ≤ 11

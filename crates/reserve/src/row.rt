@@ -5,10 +5,9 @@ use kinds::factor::Factor;
 ghost use mathlib.Core.Path.{_≡_};
 ghost use Prim.Native.Nat.{_+_};
 ghost use Rattle.model.specs.Published.{published};
-ghost use Rattle.model.specs.Row.{discounted};
+ghost use Rattle.model.specs.Row.{discounted, stated};
 ghost use Rattle.kinds.specs.Amount.{amountNumber};
 ghost use Rattle.kinds.specs.Factor.{factorNumber};
-ghost use Rattle.reserve.specs.Row.{stated};
 
 // "Gross is unpaid plus tabular."
 pub fn gross(unpaid: Amount, tabular: Amount) -> u64
