@@ -1,3 +1,4 @@
 pub mod All
 pub mod Letters
 pub mod Signed
+pub mod Within

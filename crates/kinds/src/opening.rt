@@ -1,5 +1,6 @@
 // "LINE, letter, opening (0 to 100,000,000,000).": the opening that a line declares.
 ghost use mathlib.Core.Path.{_≡_};
+ghost use Rattle.model.specs.Kind.{isOpening};
 ghost use Rattle.kinds.specs.Opening.{openingOf, openingNumber};
 
 pub struct Opening {
@@ -31,5 +32,15 @@ impl Opening {
     {
         let n = self.value;
         if n <= Opening::MOST { n } else { Opening::MOST }
+    }
+}
+
+// "opening (0 to 100,000,000,000)"
+pub fn is_opening(n: u64) -> bool
+    ensures { λ r. ⌜ r ≡ isOpening n ⌝ }
+{
+    match Opening::new(n) {
+        MaybeOpening::Within(_) => true,
+        MaybeOpening::Outside => false,
     }
 }

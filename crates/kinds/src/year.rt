@@ -1,5 +1,6 @@
 // "Years are 1987 to 2099."
 ghost use mathlib.Core.Path.{_≡_};
+ghost use Rattle.model.specs.Kind.{isYear};
 ghost use Rattle.kinds.specs.Year.{yearOf, yearNumber};
 
 pub struct Year {
@@ -39,5 +40,15 @@ impl Year {
             return Year::FIRST;
         }
         if n <= Year::LAST { n } else { Year::LAST }
+    }
+}
+
+// "Years are 1987 to 2099."
+pub fn is_year(n: u64) -> bool
+    ensures { λ r. ⌜ r ≡ isYear n ⌝ }
+{
+    match Year::new(n) {
+        MaybeYear::Within(_) => true,
+        MaybeYear::Outside => false,
     }
 }

@@ -15,12 +15,7 @@ use Rattle.model.specs.Call.{Call, declare, setRate, addPattern, closeYear}
 use Rattle.model.specs.Record as model
 use Rattle.model.specs.Question.{isWithinLimits}
 use Rattle.model.proofs.Lists.{and-left, and-right}
-use Rattle.kinds.specs.declared.year.Year as the-year
-use Rattle.kinds.specs.declared.year.MaybeYear.{MaybeYear}
-use Rattle.kinds.specs.declared.year.MaybeYear.the-variants as year-is
-use Rattle.kinds.specs.declared.opening.Opening as the-opening
-use Rattle.kinds.specs.declared.opening.MaybeOpening.{MaybeOpening}
-use Rattle.kinds.specs.declared.opening.MaybeOpening.the-variants as opening-is
+use Rattle.model.proofs.Ages.{ages-small}
 use Rattle.record.specs.Word.{named}
 use Rattle.record.specs.Number.{most}
 use Rattle.record.specs.Column.{each, sizeAt, paidAt}
@@ -31,54 +26,28 @@ use Rattle.record.specs.declared.request.Verdict.the-variants.{Limits}
 use Rattle.record.specs.declared.word.Word.{Word}
 use Rattle.record.specs.declared.word.Word.the-variants.{Line, Rate, Patt, Year, Other}
 
--- how many ages there are
-ages-by : (t : Bool) → (if t then 10 else 2) ≤ 10
-ages-by true = omega arith
-ages-by false = omega arith
-
-pub ages-few : (letter : ℕ) → ages letter ≤ 10
-unfolding ages
-ages-few letter = ages-by (tenYear letter)
-
--- a test of a kind, by the variant that it chose
-pub year-within : (p : Bool) (w a : the-year.Year) (x : MaybeYear) → x ≡ (if p then year-is.Within w else year-is.Outside) → x ≡ year-is.Within a → true ≡ p
-year-within true w a x ex e = refl
-year-within false w a x ex e = let z : _≡_ {A = ℕ} 0 1 = cc in absurd (omega arith)
-
-pub year-outside : (p : Bool) (w : the-year.Year) (x : MaybeYear) → x ≡ (if p then year-is.Within w else year-is.Outside) → x ≡ year-is.Outside → false ≡ p
-year-outside true w x ex e = let z : _≡_ {A = ℕ} 0 1 = cc in absurd (omega arith)
-year-outside false w x ex e = refl
-
-pub opening-within : (p : Bool) (w a : the-opening.Opening) (x : MaybeOpening) → x ≡ (if p then opening-is.Within w else opening-is.Outside) → x ≡ opening-is.Within a → true ≡ p
-opening-within true w a x ex e = refl
-opening-within false w a x ex e = let z : _≡_ {A = ℕ} 0 1 = cc in absurd (omega arith)
-
-pub opening-outside : (p : Bool) (w : the-opening.Opening) (x : MaybeOpening) → x ≡ (if p then opening-is.Within w else opening-is.Outside) → x ≡ opening-is.Outside → false ≡ p
-opening-outside true w x ex e = let z : _≡_ {A = ℕ} 0 1 = cc in absurd (omega arith)
-opening-outside false w x ex e = refl
-
 -- the first n of an array
 module _ {A : Type 0} (letter k : ℕ) (e : k ≡ ages letter) (list : List A) where
   pub ages-in : length list ≡ 10 → k ≤ length list
-  ages-in l = omega (arith, ages-few letter)
+  ages-in l = omega (arith, ages-small letter)
 
   pub ages-taken : length list ≡ 10 → k ≡ length (take k list)
   ages-taken l = sym (length-take-le k list (ages-in l))
 
   pub rows-in : length list ≡ 11 → k + 1 ≤ length list
-  rows-in l = omega (arith, ages-few letter)
+  rows-in l = omega (arith, ages-small letter)
 
   pub rows-taken : length list ≡ 11 → k + 1 ≡ length (take (k + 1) list)
   rows-taken l = sym (length-take-le (k + 1) list (rows-in l))
 
 pub ages-fit : (letter k : ℕ) → k ≡ ages letter → k ≤ 10
-ages-fit letter k e = omega (arith, ages-few letter)
+ages-fit letter k e = omega (arith, ages-small letter)
 
 pub rows-fit : (letter k : ℕ) → k ≡ ages letter → k + 1 ≤ 11
-rows-fit letter k e = omega (arith, ages-few letter)
+rows-fit letter k e = omega (arith, ages-small letter)
 
 pub low-fit : (letter k : ℕ) (sizes : List ℕ) → k ≡ ages letter → Low letter sizes → (k + 1 ≤ 11) × ((i : ℕ) → i < k + 1 → getD sizes (3 + i * 3) 0 ≤ most)
-low-fit letter k sizes e low = (omega (arith, ages-few letter), λ i lt. low i (omega arith))
+low-fit letter k sizes e low = (omega (arith, ages-small letter), λ i lt. low i (omega arith))
 
 -- tests one after the other
 yes : (a b : Bool) → a ≡ true → b ≡ true → (a && b) ≡ true

@@ -9,41 +9,19 @@ use crate::request::refused;
 use crate::word::Word;
 use kinds::amount::Amount;
 use kinds::letter::ages;
-use kinds::opening::MaybeOpening;
-use kinds::opening::Opening;
+use kinds::opening::is_opening;
 use kinds::paid::Paid;
 use kinds::rate::Rate;
-use kinds::year::MaybeYear;
-use kinds::year::Year;
+use kinds::year::is_year;
 ghost use mathlib.Core.Path.{_≡_};
 ghost use mathlib.Core.Bool.{_&&_};
 ghost use mathlib.Core.List.{[]};
 ghost use Rattle.model.specs.Basics.{all};
-ghost use Rattle.model.specs.Kind.{isYear, isOpening, isAmount};
+ghost use Rattle.model.specs.Kind.{isAmount};
 ghost use Rattle.model.specs.Record.{LINE, RATE, PATT, YEAR};
 ghost use Rattle.record.specs.Word.{named};
 ghost use Rattle.record.specs.Request.{says};
 ghost use Rattle.record.specs.Limits.{judged, callOf, Low, Judgeable};
-
-// "Years are 1987 to 2099."
-pub fn is_year(n: u64) -> bool
-    ensures { λ r. ⌜ r ≡ isYear n ⌝ }
-{
-    match Year::new(n) {
-        MaybeYear::Within(_) => true,
-        MaybeYear::Outside => false,
-    }
-}
-
-// "opening (0 to 100,000,000,000)"
-pub fn is_opening(n: u64) -> bool
-    ensures { λ r. ⌜ r ≡ isOpening n ⌝ }
-{
-    match Opening::new(n) {
-        MaybeOpening::Within(_) => true,
-        MaybeOpening::Outside => false,
-    }
-}
 
 // "Other money is 0 to 10,000,000,000": that of two columns.
 pub fn are_amounts(a: &[u64], b: &[u64]) -> bool

@@ -2,6 +2,6 @@
 mod closing;
 mod loss;
 mod paid_total;
-mod questions;
+pub mod questions;
 pub mod row;
 pub mod year_end;

@@ -1,7 +1,8 @@
 -- `record::limits::close_year` meets its contract. Assumes nothing.
 use native.Mathlib.Omega.{arith}
 use borrow.Author.Needs.{needs}
-use Rattle.record.proofs.Judged.{ages-few, rows-in, rows-taken, rows-fit, low-fit, close-not-year, close-not-paid, close-is, close-not}
+use Rattle.model.proofs.Ages.{ages-small}
+use Rattle.record.proofs.Judged.{rows-in, rows-taken, rows-fit, low-fit, close-not-year, close-not-paid, close-is, close-not}
 use Rattle.record.proofs.limits.close_year.Statement.{statement}
 use Rattle.record.proofs.limits.close_year.Tie as tie
 
@@ -15,7 +16,7 @@ ages-requires : tie.Need-ages-requires
 ages-requires c κs = search needs
 
 add-n : tie.Need-add-n
-add-n c = omega (arith, ages-few (c .before .before .before .args .letter))
+add-n c = omega (arith, ages-small (c .before .before .before .args .letter))
 
 payments-requires : tie.Need-payments-requires
 payments-requires c κs =

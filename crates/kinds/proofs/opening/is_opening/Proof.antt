@@ -1,8 +1,8 @@
--- `record::limits::is_opening` meets its contract. Assumes nothing.
+-- `kinds::opening::is_opening` meets its contract. Assumes nothing.
 use borrow.Author.Needs.{needs}
-use Rattle.record.proofs.Judged.{opening-within, opening-outside}
-use Rattle.record.proofs.limits.is_opening.Statement.{statement}
-use Rattle.record.proofs.limits.is_opening.Tie as tie
+use Rattle.kinds.proofs.Within.{opening-within, opening-outside}
+use Rattle.kinds.proofs.opening.is_opening.Statement.{statement}
+use Rattle.kinds.proofs.opening.is_opening.Tie as tie
 
 new-requires : tie.Need-new-requires
 new-requires c κs = search needs

@@ -1,8 +1,8 @@
--- `record::limits::is_year` meets its contract. Assumes nothing.
+-- `kinds::year::is_year` meets its contract. Assumes nothing.
 use borrow.Author.Needs.{needs}
-use Rattle.record.proofs.Judged.{year-within, year-outside}
-use Rattle.record.proofs.limits.is_year.Statement.{statement}
-use Rattle.record.proofs.limits.is_year.Tie as tie
+use Rattle.kinds.proofs.Within.{year-within, year-outside}
+use Rattle.kinds.proofs.year.is_year.Statement.{statement}
+use Rattle.kinds.proofs.year.is_year.Tie as tie
 
 new-requires : tie.Need-new-requires
 new-requires c κs = search needs

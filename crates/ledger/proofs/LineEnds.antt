@@ -1,0 +1,86 @@
+-- The loop that looks for the end of a line: how far it is, and what it finds.
+-- Assumes nothing.
+use mathlib.Core.List.{List, [], _∷_, _++_}
+use mathlib.Core.Path.{_≡_, refl, _∙_}
+use Prim.Native.Nat.{ℕ, suc, _+_, _-_, _≤_, _<_}
+use native.Mathlib.Omega.{arith}
+use native.Mathlib.Numerals.{add-one}
+use borrow.Author.Tests.{ne-eqb}
+use lib.ListN.{length, take, drop, getD, length-take, length-drop, drop-of-length-le}
+use lib.Seq.{take-suc, drop-cons, getD-drop}
+use Rattle.model.specs.Input.{push, linesOf}
+use Rattle.ledger.specs.Input.{LineEnd}
+
+-- the parts of a rest, with bytes before it of which none is 10
+abbrev ahead : List ℕ → List (List ℕ) → List (List ℕ)
+ahead [] parts = parts
+ahead (b ∷ bytes) parts = push b (ahead bytes parts)
+
+ahead-append : (bytes more : List ℕ) (parts : List (List ℕ)) → ahead (bytes ++ more) parts ≡ ahead bytes (ahead more parts)
+ahead-append [] more parts = refl
+ahead-append (b ∷ bytes) more parts = rw (ahead-append bytes more parts)
+
+ahead-of-line : (bytes : List ℕ) (parts : List (List ℕ)) → ahead bytes ([] ∷ parts) ≡ bytes ∷ parts
+ahead-of-line [] parts = refl
+ahead-of-line (b ∷ bytes) parts = rw (ahead-of-line bytes parts)
+
+ahead-of-none : (bytes : List ℕ) → 0 < length bytes → ahead bytes [] ≡ bytes ∷ []
+ahead-of-none [] lt = absurd (omega arith)
+ahead-of-none (b ∷ []) lt = refl
+ahead-of-none (b ∷ c ∷ bytes) lt = rw (ahead-of-none (c ∷ bytes) (omega arith))
+
+lines-on : (b : ℕ) (input : List ℕ) → (b ≡ 10 → ⊥) → linesOf (b ∷ input) ≡ push b (linesOf input)
+unfolding linesOf
+lines-on b input n = rw (ne-eqb b 10 n)
+
+lines-end : (b : ℕ) (input : List ℕ) → b ≡ 10 → linesOf (b ∷ input) ≡ [] ∷ linesOf input
+unfolding linesOf
+lines-end b input e = rw e
+
+-- no byte from `start` to before `at` ends the line
+pub record Within (input : List ℕ) (start at : ℕ) : Type 0 where
+  pub nonempty : start < length input
+  pub after-start : start ≤ at
+  pub inside : at ≤ length input
+  pub passed : linesOf (drop start input) ≡ ahead (take (at - start) (drop start input)) (linesOf (drop at input))
+
+pub begin : (input : List ℕ) (start : ℕ) → start < length input → Within input start start
+begin input start lt =
+    let e : start - start ≡ 0 = omega arith in
+    record { nonempty = lt; after-start = omega arith; inside = omega arith; passed = rw e }
+
+module _ (input : List ℕ) (start at : ℕ) (w : Within input start at) where
+  longer : at < length input → take ((at + 1) - start) (drop start input) ≡ take (at - start) (drop start input) ++ (getD input at 0 ∷ [])
+  longer lt =
+      let n : (at + 1) - start ≡ suc (at - start) = omega (arith, w .after-start) in
+      let p : start + (at - start) ≡ at = omega (arith, w .after-start) in
+      let l : at - start < length (drop start input) = rw length-drop (omega (arith, w .after-start)) in
+      rw (n, take-suc (drop start input) (at - start) 0 l, getD-drop start input (at - start) 0, p)
+
+  pub on : at < length input → (getD input at 0 ≡ 10 → ⊥) → Within input start (at + 1)
+  on lt n =
+      record {
+        nonempty = w .nonempty;
+        after-start = omega arith;
+        inside = omega arith;
+        passed = w .passed ∙ rw (longer lt, ahead-append, drop-cons input at 0 lt, lines-on (getD input at 0) (drop (suc at) input) n, add-one);
+      }
+
+  pub at-byte : at < length input → getD input at 0 ≡ 10 → LineEnd input start at
+  at-byte lt e =
+      record {
+        after-start = w .after-start;
+        inside = w .inside;
+        parts = w .passed ∙ rw (drop-cons input at 0 lt, lines-end (getD input at 0) (drop (suc at) input) e, ahead-of-line);
+      }
+
+  pub at-end : length input ≤ at → LineEnd input start at
+  unfolding linesOf
+  at-end le =
+      let later : length input ≤ suc at = omega arith in
+      let some-bytes : 0 < length (take (at - start) (drop start input)) = simp (length-take, length-drop) (omega (arith, w .nonempty)) in
+      record {
+        after-start = w .after-start;
+        inside = w .inside;
+        parts = w .passed ∙ rw (drop-of-length-le input le, drop-of-length-le input later, ahead-of-none (take (at - start) (drop start input)) some-bytes);
+      }

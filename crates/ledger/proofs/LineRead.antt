@@ -1,0 +1,65 @@
+-- A record's bytes: what the reader's verdict makes of them.
+-- Assumes nothing.
+use mathlib.Core.List.{List}
+use mathlib.Core.Path.{_≡_}
+use Prim.Native.Nat.{ℕ, suc, _+_}
+use native.Mathlib.Numerals.{add-one}
+use lib.IntN.{ℤ}
+use lib.ListN.{take}
+use Rattle.model.specs.Letter.{ages}
+use Rattle.model.specs.Book as model
+use Rattle.model.specs.Call.{declare, setRate, addPattern, closeYear}
+use Rattle.model.specs.Step.{asBytes, asNumbers}
+use Rattle.record.specs.declared.request.Request.{Request}
+use Rattle.record.specs.declared.request.Verdict.{Verdict}
+use Rattle.record.specs.declared.request.Verdict.the-variants as verdict
+use Rattle.record.specs.Request.{says, readOf}
+use Rattle.record.proofs.Answers.{said}
+use Rattle.ledger.specs.declared.book.Book.{Book}
+use Rattle.ledger.specs.declared.answer.Refusal.the-variants as refusal
+use Rattle.ledger.specs.declared.answer.Outcome.{Outcome}
+use Rattle.ledger.specs.View.{view}
+use Rattle.ledger.specs.Answer.{refusedOf}
+use Rattle.ledger.specs.Does.{Does, DoesAnyhow}
+use Rattle.ledger.specs.Apply.{patternCall, yearCall}
+use Rattle.ledger.proofs.Settling.{line-refused, line-asks}
+
+module _ (line : List ℕ) (request : Request) (reads : says request ≡ readOf line) (book : Book) (r : Outcome) (slots : List ℕ) where
+  pub long : request .verdict ≡ verdict.Long → r ≡ refusedOf book refusal.Long → Does (view book slots) (asBytes line) slots r slots
+  long e er = line-refused line slots r book refusal.Long (said request line reads verdict.Long e) er
+
+  pub wordless : request .verdict ≡ verdict.Word → r ≡ refusedOf book refusal.Word → Does (view book slots) (asBytes line) slots r slots
+  wordless e er = line-refused line slots r book refusal.Word (said request line reads verdict.Word e) er
+
+  pub letterless : request .verdict ≡ verdict.Letter → r ≡ refusedOf book refusal.Letter → Does (view book slots) (asBytes line) slots r slots
+  letterless e er = line-refused line slots r book refusal.Letter (said request line reads verdict.Letter e) er
+
+  pub miscounted : request .verdict ≡ verdict.Count → r ≡ refusedOf book refusal.Count → Does (view book slots) (asBytes line) slots r slots
+  miscounted e er = line-refused line slots r book refusal.Count (said request line reads verdict.Count e) er
+
+  pub ill-written : request .verdict ≡ verdict.Writing → r ≡ refusedOf book refusal.Writing → Does (view book slots) (asBytes line) slots r slots
+  ill-written e er = line-refused line slots r book refusal.Writing (said request line reads verdict.Writing e) er
+
+  pub past-limits : request .verdict ≡ verdict.Limits → r ≡ refusedOf book refusal.Limits → Does (view book slots) (asBytes line) slots r slots
+  past-limits e er = line-refused line slots r book refusal.Limits (said request line reads verdict.Limits e) er
+
+  pub declares : request .verdict ≡ verdict.Declare → DoesAnyhow book (asNumbers (declare (request .letter) (request .opening))) r → Does (view book slots) (asBytes line) slots r slots
+  declares e h = line-asks line slots r (view book slots) (declare (request .letter) (request .opening)) slots (said request line reads verdict.Declare e) (h slots)
+
+  pub sets-rate : request .verdict ≡ verdict.SetRate → DoesAnyhow book (asNumbers (setRate (request .year) (request .months))) r → Does (view book slots) (asBytes line) slots r slots
+  sets-rate e h = line-asks line slots r (view book slots) (setRate (request .year) (request .months)) slots (said request line reads verdict.SetRate e) (h slots)
+
+  pub adds-pattern : request .verdict ≡ verdict.AddPattern → (later : List ℕ) → Does (view book slots) (asNumbers (patternCall request)) slots r later → Does (view book slots) (asBytes line) slots r later
+  adds-pattern e later h = line-asks line slots r (view book slots) (patternCall request) later (said request line reads verdict.AddPattern e) h
+
+  pub closes-year : request .verdict ≡ verdict.CloseYear → Does (view book slots) (asNumbers (yearCall request)) slots r slots → Does (view book slots) (asBytes line) slots r slots
+  closes-year e h = line-asks line slots r (view book slots) (yearCall request) slots (said request line reads verdict.CloseYear e) h
+
+-- the lists of a call, as many numbers as the line has ages or rows
+module _ (book : model.Book) (letter year n : ℕ) (en : n ≡ ages letter) (slots : List ℕ) (r : Outcome) where
+  pub pattern-taken : (paid incurred later : List ℕ) → Does book (asNumbers (addPattern letter year (take n paid) (take n incurred))) slots r later → Does book (asNumbers (addPattern letter year (take (ages letter) paid) (take (ages letter) incurred))) slots r later
+  pattern-taken paid incurred later h = rw (← en) h
+
+  pub year-taken : (paid : List ℤ) (unpaid tabular : List ℕ) → Does book (asNumbers (closeYear letter year (take (n + 1) paid) (take (n + 1) unpaid) (take (n + 1) tabular))) slots r slots
+      → Does book (asNumbers (closeYear letter year (take (suc (ages letter)) paid) (take (suc (ages letter)) unpaid) (take (suc (ages letter)) tabular))) slots r slots
+  year-taken paid unpaid tabular h = rw (← en, ← (add-one n)) h

@@ -1,0 +1,123 @@
+-- RATE: what the mean of its months says of questions 4 and 6, and question 7.
+-- Assumes nothing.
+use mathlib.Core.Bool.{Bool, true, false, _&&_}
+use mathlib.Core.List.{List}
+use mathlib.Core.Path.{_≡_, refl, sym, ap, _∙_}
+use mathlib.Core.Option.{Option, none, some}
+use Prim.Native.Nat.{ℕ, _≤_, min}
+use native.Mathlib.Omega.{arith}
+use borrow.Author.Tests.{eqb-true}
+use lib.Dec.{eqb}
+use lib.ListN.{length}
+use Rattle.model.specs.Basics.{if_then_else_, given, all}
+use Rattle.model.specs.Kind.{isRate, isYear}
+use Rattle.model.specs.Rate.{rateOf}
+use Rattle.model.specs.Call.{setRate}
+use Rattle.model.specs.Question.{isWithinLimits, bookQuestions, firstNo}
+use Rattle.model.specs.Step.{asNumbers, accept}
+use Rattle.model.proofs.Lists.{and-left}
+use Rattle.kinds.specs.declared.rate.Rate.{Rate}
+use Rattle.kinds.specs.Rate.{rateNumber}
+use Rattle.factor.specs.Rate.{meanOf}
+use Rattle.factor.specs.declared.rate.Mean.{Mean}
+use Rattle.factor.specs.declared.rate.Mean.the-variants as mean
+use Rattle.factor.proofs.Totals.{sum-small}
+use Rattle.ledger.specs.declared.book.Book.{Book}
+use Rattle.ledger.specs.declared.answer.Refusal.the-variants as refusal
+use Rattle.ledger.specs.declared.answer.Answer.the-variants as answer
+use Rattle.ledger.specs.declared.answer.Outcome.{Outcome}
+use Rattle.ledger.specs.declared.rates.YearRate.{YearRate}
+use Rattle.ledger.specs.declared.rates.YearRate.the-variants as year-rate
+use Rattle.ledger.specs.Rates.{ratesOf, yearRate, withRateOf}
+use Rattle.ledger.specs.View.{view}
+use Rattle.ledger.specs.Answer.{refusedOf, acceptedOf}
+use Rattle.ledger.specs.Does.{slotsAfter, Sound, SettledAnyhow, DoesAnyhow}
+use Rattle.ledger.specs.SetRate.{Averaged}
+use Rattle.ledger.proofs.Settling.{refused, count-refused, limits-refused, goes-on-anyhow}
+use Rattle.ledger.proofs.RatePlaces.{rates-put}
+
+-- a mean by its two tests
+abbrev by-tests : Bool → Bool → Rate → Mean
+by-tests a b rate = if a then (if b then mean.Is rate else mean.Limits) else mean.Length
+
+is-rate : (a b : Bool) (w rate : Rate) → by-tests a b w ≡ mean.Is rate → (a ≡ true) × (b ≡ true) × (rate ≡ w)
+is-rate true true w rate e = (refl, refl, cc)
+is-rate true false w rate e = let z : _≡_ {A = ℕ} 0 1 = cc in absurd (omega arith)
+is-rate false b w rate e = let z : _≡_ {A = ℕ} 0 1 = cc in absurd (omega arith)
+
+is-length : (a b : Bool) (w : Rate) → by-tests a b w ≡ mean.Length → a ≡ false
+is-length true true w e = let z : _≡_ {A = ℕ} 0 1 = cc in absurd (omega arith)
+is-length true false w e = let z : _≡_ {A = ℕ} 0 1 = cc in absurd (omega arith)
+is-length false b w e = refl
+
+is-limits : (a b : Bool) (w : Rate) → by-tests a b w ≡ mean.Limits → (a ≡ true) × (b ≡ false)
+is-limits true true w e = let z : _≡_ {A = ℕ} 0 1 = cc in absurd (omega arith)
+is-limits true false w e = (refl, refl)
+is-limits false b w e = let z : _≡_ {A = ℕ} 0 1 = cc in absurd (omega arith)
+
+and-false : (a b : Bool) → b ≡ false → (a && b) ≡ false
+and-false true b e = e
+and-false false b e = refl
+
+-- questions 4 and 6
+module _ (year : ℕ) (months : List ℕ) (m : Mean) (em : m ≡ meanOf months) where
+  abbrev sixty : Bool
+  sixty = eqb (length months) 60
+
+  abbrev rates : Bool
+  rates = all isRate months
+
+  abbrev rate-of-months : Rate
+  rate-of-months = record { value = rateOf months }
+
+  module _ (rate : Rate) (e : m ≡ mean.Is rate) (limited : Bool) (ey : limited ≡ isYear year) where
+    tests : (sixty ≡ true) × (rates ≡ true) × (rate ≡ rate-of-months)
+    tests = is-rate sixty rates rate-of-months rate (sym em ∙ e)
+
+    small : rateOf months ≤ 2500
+    small = omega (arith, sum-small months (tests .1), eqb-true (length months) 60 (tests .0))
+
+    pub averaged : limited ≡ true → Averaged year (rateNumber rate) months
+    averaged y =
+        record {
+          sound = record { letter = refl; lengths = tests .0; limits = rw (← ey, y) (tests .1) };
+          mean = rw (tests .2) (omega (arith, small));
+        }
+
+    pub rate-on : limited ≡ true → (book : Book) (r : Outcome) → SettledAnyhow book (setRate year months) r → DoesAnyhow book (asNumbers (setRate year months)) r
+    rate-on y book r h = goes-on-anyhow book (setRate year months) r (averaged y .sound) h
+
+    pub year-refused : limited ≡ false → (book : Book) (r : Outcome) → r ≡ refusedOf book refusal.Limits → DoesAnyhow book (asNumbers (setRate year months)) r
+    year-refused y book r er = limits-refused book (setRate year months) r true refl refl sixty refl (tests .0) (isWithinLimits (setRate year months)) refl (rw (← ey, y)) er
+
+  pub months-counted : m ≡ mean.Length → (book : Book) (r : Outcome) → r ≡ refusedOf book refusal.Count → DoesAnyhow book (asNumbers (setRate year months)) r
+  months-counted e book r er = count-refused book (setRate year months) r true refl refl sixty refl (is-length sixty rates rate-of-months (sym em ∙ e)) er
+
+  pub months-limited : m ≡ mean.Limits → (book : Book) (r : Outcome) → r ≡ refusedOf book refusal.Limits → DoesAnyhow book (asNumbers (setRate year months)) r
+  months-limited e book r er =
+      let t = is-limits sixty rates rate-of-months (sym em ∙ e) in
+      limits-refused book (setRate year months) r true refl refl sixty refl (t .0) (isWithinLimits (setRate year months)) refl (and-false (isYear year) rates (t .1)) er
+
+-- question 7
+pub set-year : (year rate : ℕ) (months : List ℕ) → Averaged year rate months → isYear year ≡ true
+set-year year rate months pre = and-left (isYear year) (all isRate months) (pre .sound .limits)
+
+module _ (book : Book) (year : ℕ) (rate : Rate) (months : List ℕ) (pre : Averaged year (rateNumber rate) months) (before : YearRate) (eb : yearRate before ≡ ratesOf (book .rates) year) (r : Outcome) where
+  first-is : (slots : List ℕ) (o : Option ℕ) → ratesOf (book .rates) year ≡ o → firstNo (bookQuestions (view book slots) (setRate year months)) ≡ (if given o then some 7 else none)
+  unfolding bookQuestions
+  first-is slots none e = rw e
+  first-is slots (some n) e = rw e
+
+  pub rate-given : (old : Rate) → before ≡ year-rate.Given old → r ≡ refusedOf book refusal.Given → SettledAnyhow book (setRate year months) r
+  rate-given old e er slots =
+      refused book refusal.Given (firstNo (bookQuestions (view book slots) (setRate year months))) (setRate year months) slots r (first-is slots (some (rateNumber old)) (sym eb ∙ ap yearRate e)) er
+
+  pub rate-set : before ≡ year-rate.Missing → length (book .rates) ≡ 113 → (later : Book) → later ≡ withRateOf book year (rateNumber rate) → (n : ℕ) → n ≡ rateNumber rate → r ≡ acceptedOf later (answer.Rate year n) → SettledAnyhow book (setRate year months) r
+  unfolding accept slotsAfter
+  rate-set e len later el n en er slots =
+      rw (first-is slots none (sym eb ∙ ap yearRate e), er, el, en)
+      record {
+        outcome = rw (rates-put (book .rates) year (rateNumber rate) len (set-year year (rateNumber rate) months pre) (omega arith), pre .mean);
+        lent = refl;
+        whole = refl;
+      }

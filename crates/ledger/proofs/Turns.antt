@@ -1,0 +1,109 @@
+-- Question 10 of the code's line is that of the line that the view shows.
+-- Assumes nothing.
+use mathlib.Core.Bool.{Bool, true, false, not, _&&_}
+use mathlib.Core.List.{List}
+use mathlib.Core.Path.{_≡_, refl, sym, _∙_}
+use mathlib.Core.Option.{Option, none, some}
+use Prim.Native.Nat.{ℕ, zero, suc, _+_, _≤_, _<_, min}
+use native.Mathlib.Omega.{arith}
+use native.Mathlib.Numerals.{add-one}
+use borrow.Author.Tests.{eq-eqb, ne-eqb, leb-true}
+use mir.Syntax.{w64}
+use mir.Val.{Fits}
+use lib.Dec.{eqb, leb}
+use Rattle.model.specs.Basics.{if_then_else_}
+use Rattle.model.specs.Kind.{isYear}
+use Rattle.model.specs.Letter.{ages}
+use Rattle.model.specs.Book as model
+use Rattle.model.specs.Book.{latest}
+use Rattle.model.specs.Question.{follows, isYearOf, isOpen}
+use Rattle.model.proofs.Lists.{and-right}
+use Rattle.ledger.specs.declared.book.Line.{Line}
+use Rattle.ledger.specs.Patterns.{keptBack, keptCount}
+use Rattle.ledger.specs.View.{lineOf}
+use Rattle.ledger.specs.AddPattern.{followsLast}
+use Rattle.ledger.specs.CloseYear.{isDue}
+
+-- a line that keeps a pattern has its last one's year
+by-year : (y : Bool) (n : ℕ) → 0 < (if y then n else 0) → y ≡ true
+by-year true n h = refl
+by-year false n h = absurd (omega arith)
+
+pub last-year : (letter : ℕ) (line : Line) → 0 < keptCount letter line → isYear (line .last) ≡ true
+unfolding keptCount
+last-year letter line h = by-year (isYear (line .last)) (min (line .kept) (ages letter)) h
+
+pub next-year-fits : (letter : ℕ) (line : Line) (n : ℕ) → n ≡ keptCount letter line → (n ≡ 0 → ⊥) → Fits w64 (line .last + 1)
+next-year-fits letter line n en z =
+    let y = last-year letter line (omega (arith, z)) in
+    record { fits = omega (arith, leb-true (line .last) 2099 (and-right (leb 1987 (line .last)) (leb (line .last) 2099) y)) }
+
+-- what the code finds
+module _ (letter year : ℕ) (line : Line) (n : ℕ) (en : n ≡ keptCount letter line) where
+  pub first-follows : n ≡ 0 → true ≡ followsLast letter line year
+  unfolding followsLast
+  first-follows z = rw (← en, z)
+
+  pub nothing-due : n ≡ 0 → false ≡ isDue letter line year
+  unfolding isDue
+  nothing-due z = rw (← en, z)
+
+  module _ (z : n ≡ 0 → ⊥) where
+    pub not-next : (year ≡ line .last + 1 → ⊥) → false ≡ followsLast letter line year
+    unfolding followsLast
+    not-next y = rw (← en, ne-eqb n 0 z, ne-eqb year (line .last + 1) y)
+
+    pub not-last : (year ≡ line .last → ⊥) → false ≡ isDue letter line year
+    unfolding isDue
+    not-last y = rw (← en, ne-eqb n 0 z, ne-eqb year (line .last) y)
+
+    module _ (t : Bool) (et : t ≡ isYear (line .closed)) where
+      pub follows-closed : year ≡ line .last + 1 → t ≡ true → eqb (line .closed) (line .last) ≡ followsLast letter line year
+      unfolding followsLast
+      follows-closed y e = rw (← en, ne-eqb n 0 z, eq-eqb year (line .last + 1) y, ← et, e)
+
+      pub follows-open : year ≡ line .last + 1 → t ≡ false → true ≡ followsLast letter line year
+      unfolding followsLast
+      follows-open y e = rw (← en, ne-eqb n 0 z, eq-eqb year (line .last + 1) y, ← et, e)
+
+      pub due-closed : year ≡ line .last → t ≡ true → not (eqb (line .closed) year) ≡ isDue letter line year
+      unfolding isDue
+      due-closed y e = rw (← en, ne-eqb n 0 z, eq-eqb year (line .last) y, ← et, e)
+
+      pub due-open : year ≡ line .last → t ≡ false → true ≡ isDue letter line year
+      unfolding isDue
+      due-open y e = rw (← en, ne-eqb n 0 z, eq-eqb year (line .last) y, ← et, e)
+
+-- what the model finds
+both : (a b : Bool) → (a && b) ≡ (if a then b else false)
+both true b = refl
+both false b = refl
+
+some-kept : (n : ℕ) → eqb (suc n) 0 ≡ false
+some-kept n = ne-eqb (suc n) 0 (λ (e : suc n ≡ 0). omega arith)
+
+module _ (slots : List ℕ) (letter : ℕ) (line : Line) (year closing : ℕ) where
+  abbrev closedBy : Bool → Option model.Closed
+  closedBy t = if t then some (record { year = line .closed; closing = closing }) else none
+
+  follows-by : (n : ℕ) (t : Bool) → follows (latest (keptBack slots letter n (line .last))) (closedBy t) year
+      ≡ (if eqb n 0 then true else (if eqb year (line .last + 1) then (if t then eqb (line .closed) (line .last) else true) else false))
+  unfolding keptBack
+  follows-by zero t = refl
+  follows-by (suc n) true = rw (add-one, some-kept n) (both (eqb year (suc (line .last))) (eqb (line .closed) (line .last)))
+  follows-by (suc n) false = rw (add-one, some-kept n) (both (eqb year (suc (line .last))) true)
+
+  due-by : (n : ℕ) (t : Bool) → (isYearOf (latest (keptBack slots letter n (line .last))) year && isOpen (closedBy t) year)
+      ≡ (if eqb n 0 then false else (if eqb year (line .last) then (if t then not (eqb (line .closed) year) else true) else false))
+  unfolding keptBack
+  due-by zero t = refl
+  due-by (suc n) true = rw (some-kept n) (both (eqb year (line .last)) (not (eqb (line .closed) year)))
+  due-by (suc n) false = rw (some-kept n) (both (eqb year (line .last)) true)
+
+pub follows-is : (slots : List ℕ) (letter : ℕ) (line : Line) (year : ℕ) → follows (latest (lineOf slots letter line .kept)) (lineOf slots letter line .closed) year ≡ followsLast letter line year
+unfolding lineOf followsLast
+follows-is slots letter line year = follows-by slots letter line year (min (line .closing) 110000000000) (keptCount letter line) (isYear (line .closed))
+
+pub due-is : (slots : List ℕ) (letter : ℕ) (line : Line) (year : ℕ) → (isYearOf (latest (lineOf slots letter line .kept)) year && isOpen (lineOf slots letter line .closed) year) ≡ isDue letter line year
+unfolding lineOf isDue
+due-is slots letter line year = due-by slots letter line year (min (line .closing) 110000000000) (keptCount letter line) (isYear (line .closed))

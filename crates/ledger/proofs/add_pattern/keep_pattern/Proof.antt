@@ -1,0 +1,24 @@
+-- `ledger::add_pattern::keep_pattern` meets its contract. Assumes nothing.
+use borrow.Author.Needs.{needs}
+use Rattle.ledger.proofs.add_pattern.keep_pattern.Statement.{statement}
+use Rattle.ledger.proofs.add_pattern.keep_pattern.Tie as tie
+
+keep-requires : tie.Need-keep-requires
+keep-requires c κs = search needs
+
+with-pattern-requires : tie.Need-with-pattern-requires
+with-pattern-requires c κs = search needs
+
+with-line-requires : tie.Need-with-line-requires
+with-line-requires c κs = search needs
+
+publish-requires : tie.Need-publish-requires
+publish-requires c κs = search needs
+
+returns : tie.Need-returns
+returns c = (cc, c .before .before .before .keep .ensures .0, c .before .before .before .keep .ensures .1)
+
+pub keep-pattern-spec : {M : Type 1} → statement M
+keep-pattern-spec =
+    tie.close
+    (tie.spec keep-requires with-pattern-requires with-line-requires publish-requires returns)

@@ -1,0 +1,40 @@
+-- `ledger::declare::ask_given` meets its contract. Assumes nothing.
+use mathlib.Core.Path.{_≡_}
+use lib.ListN.{length}
+use borrow.Author.Needs.{needs}
+use Rattle.ledger.proofs.Views.{length-mapped}
+use Rattle.ledger.proofs.Declared.{given-refused, declared}
+use Rattle.ledger.proofs.declare.ask_given.Statement.{statement}
+use Rattle.ledger.proofs.declare.ask_given.Tie as tie
+
+line-of-requires : tie.Need-line-of-requires
+line-of-requires c κs = search needs
+
+refuse-requires : tie.Need-refuse-requires
+refuse-requires c κs = search needs
+
+returns : tie.Need-returns
+returns c = search given-refused
+
+with-line-requires : tie.Need-with-line-requires
+with-line-requires c κs = search needs
+
+accept-requires : tie.Need-accept-requires
+accept-requires c κs = search needs
+
+returns-2 : tie.Need-returns-2
+returns-2 c =
+    let given = c .before .before .before .before .args in
+    let n : length (given .book .lines) ≡ 15 = search length-mapped in
+    search declared
+
+pub ask-given-spec : {M : Type 1} → statement M
+ask-given-spec =
+    tie.close
+    (tie.spec
+    line-of-requires
+    refuse-requires
+    returns
+    with-line-requires
+    accept-requires
+    returns-2)

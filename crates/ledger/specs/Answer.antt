@@ -1,0 +1,63 @@
+-- "For every case of an enum answer, a definition gives this paper's number and values."
+-- Assumes nothing: these are definitions.
+use mathlib.Core.List.{List, [], _∷_, _++_}
+use Prim.Native.Nat.{ℕ, _-_}
+use lib.ListN.{length, take, getD, replicate}
+use Rattle.model.specs.Letter.{ages}
+use Rattle.model.specs.Answer as model
+use Rattle.model.specs.Step as model-step
+use Rattle.model.specs.Step.{oneMore}
+use Rattle.ledger.specs.declared.book.Book.{Book}
+use Rattle.ledger.specs.declared.answer.Refusal.{Refusal}
+use Rattle.ledger.specs.declared.answer.Refusal.the-variants as refusal
+use Rattle.ledger.specs.declared.answer.Answer.{Answer}
+use Rattle.ledger.specs.declared.answer.Answer.the-variants as answer
+use Rattle.ledger.specs.declared.answer.Outcome.{Outcome}
+use Rattle.ledger.specs.View.{view}
+
+-- each refusal's number
+abbrev pub numberOf : Refusal → ℕ
+numberOf refusal.Long = 1
+numberOf refusal.Word = 2
+numberOf refusal.Letter = 3
+numberOf refusal.Count = 4
+numberOf refusal.Writing = 5
+numberOf refusal.Limits = 6
+numberOf refusal.Given = 7
+numberOf refusal.Declared = 8
+numberOf refusal.Rate = 9
+numberOf refusal.Turn = 10
+numberOf refusal.Incurred = 11
+numberOf refusal.Falls = 12
+numberOf refusal.Pattern = 13
+
+-- each answer's values; a FACT's factors and composite stand beside it
+abbrev pub answered : Answer → List ℕ → model.Answer
+answered (answer.Line letter opening) published = model.declared letter opening
+answered (answer.Rate year rate) published = model.rated year rate
+answered (answer.Fact letter year) published = model.fact letter year (take (ages letter) published) (getD published 10 0)
+answered (answer.Tax letter year paid opening closing loss) published = model.tax letter year paid opening closing loss
+answered (answer.No question) published = model.refusal (numberOf question)
+
+-- what stands beside an answer, whole: a FACT's factors, zeros up to ten, and its composite; or zeros
+abbrev pub beside : model.Answer → List ℕ
+beside (model.declared letter opening) = replicate 11 0
+beside (model.rated year rate) = replicate 11 0
+beside (model.fact letter year factors composite) = factors ++ (replicate (10 - length factors) 0 ++ (composite ∷ []))
+beside (model.tax letter year paid opening closing loss) = replicate 11 0
+beside (model.refusal question) = replicate 11 0
+
+-- the model's outcome that an outcome and the lent list are
+abbrev pub outcomeOf : Outcome → List ℕ → model-step.Outcome
+outcomeOf r slots = record { book = view (r .book) slots; answer = answered (r .answer) (r .published) }
+
+abbrev pub refusedOf : Book → Refusal → Outcome
+refusedOf book question =
+    record {
+      book = record { rates = book .rates; lines = book .lines; accepted = book .accepted; refused = oneMore (book .refused) };
+      answer = answer.No question;
+      published = replicate 11 0;
+    }
+
+abbrev pub acceptedOf : Book → Answer → Outcome
+acceptedOf book given = record { book = book; answer = given; published = replicate 11 0 }

@@ -1,0 +1,38 @@
+-- The calls of a PATT and of a YEAR that were read, and a whole input.
+-- Assumes nothing: these are definitions.
+use mathlib.Core.List.{List, [], _∷_}
+use mathlib.Core.Path.{_≡_}
+use Prim.Native.Nat.{ℕ, suc}
+use lib.ListN.{take}
+use Rattle.model.specs.Letter.{ages}
+use Rattle.model.specs.Book as model
+use Rattle.model.specs.Call.{Call, addPattern, closeYear}
+use Rattle.model.specs.Question.{firstNo}
+use Rattle.model.specs.Step as model-step
+use Rattle.model.specs.Step.{asked, questions, step}
+use Rattle.model.specs.Run.{after, recordsOf}
+use Rattle.model.specs.History.{accepted}
+use Rattle.model.specs.Demand.{Holds}
+use Rattle.record.specs.declared.request.Request.{Request}
+use Rattle.ledger.specs.declared.book.Book.{Book}
+use Rattle.ledger.specs.View.{view}
+use Rattle.ledger.specs.Does.{slotsAfter}
+
+abbrev pub patternCall : Request → Call
+patternCall r = addPattern (r .letter) (r .year) (take (ages (r .letter)) (r .paid)) (take (ages (r .letter)) (r .incurred))
+
+abbrev pub yearCall : Request → Call
+yearCall r =
+    closeYear (r .letter) (r .year) (take (suc (ages (r .letter))) (r .payments)) (take (suc (ages (r .letter))) (r .unpaid)) (take (suc (ages (r .letter))) (r .tabular))
+
+-- the lent list after a list of requests
+unfoldable pub slotsAfterAll : model.Book → List model-step.Request → List ℕ → List ℕ
+slotsAfterAll book [] slots = slots
+slotsAfterAll book (request ∷ requests) slots =
+    slotsAfterAll (step book request .book) requests (slotsAfter (firstNo (questions book request)) book (asked request) slots)
+
+-- a whole input from the empty book: the model's last book, the whole of the lent list, and demand 3 of what the code holds
+pub record Runs (input slots : List ℕ) (r : Book) (later : List ℕ) : Type 0 where
+  pub book : view r later ≡ after model.empty (recordsOf input)
+  pub lent : later ≡ slotsAfterAll model.empty (recordsOf input) slots
+  pub demand : Holds (accepted model.empty (recordsOf input)) (view r later)

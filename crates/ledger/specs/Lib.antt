@@ -1,0 +1,13 @@
+pub mod AddPattern
+pub mod Answer
+pub mod Apply
+pub mod CloseYear
+pub mod Does
+pub mod Input
+pub mod Lines
+pub mod Patterns
+pub mod Rates
+pub mod Read
+pub mod Rows
+pub mod SetRate
+pub mod View

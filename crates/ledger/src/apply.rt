@@ -1,0 +1,79 @@
+// One record, by the bytes of its line.
+use crate::add_pattern::add_pattern;
+use crate::answer::Outcome;
+use crate::answer::Refusal;
+use crate::answer::refuse;
+use crate::book::Book;
+use crate::close_year::close_year;
+use crate::declare::declare;
+use crate::set_rate::set_rate;
+use kinds::letter::ages;
+use record::read::read;
+use record::request::Request;
+use record::request::Verdict;
+ghost use mathlib.Core.Path.{_≡_};
+ghost use Rattle.model.specs.Step.{asBytes, asNumbers};
+ghost use Rattle.ledger.specs.View.{view};
+ghost use Rattle.ledger.specs.Does.{Does};
+ghost use Rattle.ledger.specs.Apply.{patternCall, yearCall};
+
+// "Questions put to a record, in this order": 1 to 6 by the reader, which answers a call with numbers, and then those of the call.
+pub fn apply(book: Book, patterns: &mut [u64; 1650], line: &[u8]) -> Outcome
+    ensures { λ r. ⌜ Does (view book (now (patterns .entry))) (asBytes (now (line .entry))) (now (patterns .entry)) r (now (patterns .exit)) ⌝ }
+{
+    let request = read(line);
+    let verdict = request.verdict;
+    match verdict {
+        Verdict::Long => refuse(book, Refusal::Long),
+        Verdict::Word => refuse(book, Refusal::Word),
+        Verdict::Letter => refuse(book, Refusal::Letter),
+        Verdict::Count => refuse(book, Refusal::Count),
+        Verdict::Writing => refuse(book, Refusal::Writing),
+        Verdict::Limits => refuse(book, Refusal::Limits),
+        Verdict::Declare => declare(book, request.letter, request.opening),
+        Verdict::SetRate => {
+            let months = request.months;
+            set_rate(book, request.year, &months)
+        }
+        Verdict::AddPattern => apply_pattern(book, patterns, request),
+        Verdict::CloseYear => apply_year(book, patterns, request),
+    }
+}
+
+// The lists of a PATT by its line's ages.
+fn apply_pattern(book: Book, patterns: &mut [u64; 1650], request: Request) -> Outcome
+    ensures { λ r. ⌜ Does (view book (now (patterns .entry))) (asNumbers (patternCall request)) (now (patterns .entry)) r (now (patterns .exit)) ⌝ }
+{
+    let letter = request.letter;
+    let n = ages(letter);
+    let paid = request.paid;
+    let incurred = request.incurred;
+    add_pattern(
+        book,
+        patterns,
+        letter,
+        request.year,
+        &paid[..n],
+        &incurred[..n],
+    )
+}
+
+// The lists of a YEAR by its line's ages, and the prior row.
+fn apply_year(book: Book, patterns: &[u64; 1650], request: Request) -> Outcome
+    ensures { λ r. ⌜ Does (view book (now (patterns .entry))) (asNumbers (yearCall request)) (now (patterns .entry)) r (now (patterns .entry)) ⌝ }
+{
+    let letter = request.letter;
+    let n = ages(letter) + 1;
+    let payments = request.payments;
+    let unpaid = request.unpaid;
+    let tabular = request.tabular;
+    close_year(
+        book,
+        patterns,
+        letter,
+        request.year,
+        &payments[..n],
+        &unpaid[..n],
+        &tabular[..n],
+    )
+}

@@ -1,0 +1,44 @@
+// The rate places, one for each year from 1987 to 2099.
+use crate::answer::one_more;
+use crate::book::Book;
+use kinds::rate::Rate;
+use kinds::year::Year;
+use kinds::year::is_year;
+ghost use mathlib.Core.Bool.{true};
+ghost use mathlib.Core.Path.{_≡_};
+ghost use Rattle.model.specs.Kind.{isYear};
+ghost use Rattle.kinds.specs.Rate.{rateNumber};
+ghost use Rattle.ledger.specs.Rates.{yearRate, ratesOf, withRateOf};
+
+// The rate of an accident year, or that none was given.
+pub enum YearRate {
+    Given(Rate),
+    Missing,
+}
+
+pub fn rate_of(book: Book, year: u64) -> YearRate
+    ensures { λ r. ⌜ yearRate r ≡ ratesOf (book .rates) year ⌝ }
+{
+    if is_year(year) {
+        let place = (year - Year::FIRST) as usize;
+        let rate = book.rates[place] as u64;
+        if rate <= Rate::MOST {
+            return YearRate::Given(Rate { value: rate });
+        }
+        return YearRate::Missing;
+    }
+    YearRate::Missing
+}
+
+// The book with a year's rate, and one record more accepted.
+pub fn with_rate(book: Book, year: u64, rate: Rate) -> Book
+    requires { ⌜ isYear year ≡ true ⌝ }
+    ensures { λ r. ⌜ r ≡ withRateOf book year (rateNumber rate) ⌝ }
+{
+    let mut later = book;
+    let place = (year - Year::FIRST) as usize;
+    later.rates[place] = rate.number() as u16;
+    let count = one_more(book.accepted);
+    later.accepted = count;
+    later
+}

@@ -1,0 +1,58 @@
+// "RATE, year, sixty rates"
+use crate::answer::Answer;
+use crate::answer::Outcome;
+use crate::answer::Refusal;
+use crate::answer::accept;
+use crate::answer::refuse;
+use crate::book::Book;
+use crate::rates::YearRate;
+use crate::rates::rate_of;
+use crate::rates::with_rate;
+use factor::rate::Mean;
+use factor::rate::mean_rate;
+use kinds::rate::Rate;
+use kinds::year::is_year;
+ghost use Rattle.model.specs.Call.{setRate};
+ghost use Rattle.model.specs.Step.{asNumbers};
+ghost use Rattle.kinds.specs.Rate.{rateNumber};
+ghost use Rattle.ledger.specs.Does.{SettledAnyhow, DoesAnyhow};
+ghost use Rattle.ledger.specs.SetRate.{Averaged};
+
+// Questions 4 and 6, and on.
+pub fn set_rate(book: Book, year: u64, months: &[u64]) -> Outcome
+    ensures { λ r. ⌜ DoesAnyhow book (asNumbers (setRate year (now (months .entry)))) r ⌝ }
+{
+    let mean = mean_rate(months);
+    match mean {
+        Mean::Is(rate) => {
+            if is_year(year) {
+                ask_given(book, year, rate, months)
+            } else {
+                refuse(book, Refusal::Limits)
+            }
+        }
+        Mean::Length => refuse(book, Refusal::Count),
+        Mean::Limits => refuse(book, Refusal::Limits),
+    }
+}
+
+// "7. LINE, RATE: is that line or that year's rate still to be given?" (The months are there for the contract alone.)
+fn ask_given(book: Book, year: u64, rate: Rate, months: &[u64]) -> Outcome
+    requires { ⌜ Averaged year (rateNumber rate) (now months) ⌝ }
+    ensures { λ r. ⌜ SettledAnyhow book (setRate year (now (months .entry))) r ⌝ }
+{
+    let before = rate_of(book, year);
+    match before {
+        YearRate::Given(_) => refuse(book, Refusal::Given),
+        YearRate::Missing => {
+            let later = with_rate(book, year, rate);
+            accept(
+                later,
+                Answer::Rate {
+                    year,
+                    rate: rate.number(),
+                },
+            )
+        }
+    }
+}
