@@ -14,22 +14,18 @@ use Rattle.model.specs.Letter.{covered}
 use Rattle.model.specs.Call.{declare}
 use Rattle.model.specs.Question.{bookQuestions, firstNo}
 use Rattle.model.specs.Step.{asNumbers, declaredLine, accept}
-use Rattle.ledger.specs.declared.book.Book.{Book}
-use Rattle.ledger.specs.declared.book.Line.{Line}
+use Rattle.state.specs.declared.book.Book.{Book}
+use Rattle.state.specs.declared.book.Line.{Line}
 use Rattle.ledger.specs.declared.answer.Refusal.the-variants as refusal
 use Rattle.ledger.specs.declared.answer.Answer.the-variants as answer
 use Rattle.ledger.specs.declared.answer.Outcome.{Outcome}
-use Rattle.ledger.specs.Lines.{lineAt, withLineOf}
-use Rattle.ledger.specs.Patterns.{keptCount, keptBack}
-use Rattle.ledger.specs.View.{lineOf, view}
-use Rattle.ledger.specs.Answer.{refusedOf, acceptedOf}
+use Rattle.state.specs.Lines.{lineAt, newLine, withLineOf}
+use Rattle.state.specs.Patterns.{keptCount, keptBack}
+use Rattle.state.specs.View.{lineOf, view}
+use Rattle.ledger.specs.Answer.{nothing, refusedOf, acceptedOf}
 use Rattle.ledger.specs.Does.{slotsAfter, Sound, SettledAnyhow, DoesAnyhow}
 use Rattle.ledger.proofs.Settling.{refused, limits-refused}
-use Rattle.ledger.proofs.Views.{view-with-line, declared-is}
-
--- the line that LINE stores
-abbrev pub newLine : ℕ → Line
-newLine opening = record { declared = true; opening = opening; closed = 0; closing = 0; last = 0; kept = 0 }
+use Rattle.state.proofs.Views.{lines-put, declared-is}
 
 new-line : (slots : List ℕ) (letter opening : ℕ) → isOpening opening ≡ true → lineOf slots letter (newLine opening) ≡ declaredLine opening
 unfolding lineOf keptCount keptBack
@@ -46,12 +42,12 @@ module _ (book : Book) (letter opening : ℕ) (sound : Sound (declare letter ope
   pub given-refused : line .declared ≡ true → r ≡ refusedOf book refusal.Given → SettledAnyhow book (declare letter opening) r
   given-refused d er slots = refused book refusal.Given (firstNo (bookQuestions (view book slots) (declare letter opening))) (declare letter opening) slots r (first-is slots true d) er
 
-  pub declared : line .declared ≡ false → length (book .lines) ≡ 15 → (later : Book) → later ≡ withLineOf book letter (newLine opening) → r ≡ acceptedOf later (answer.Line letter opening) → SettledAnyhow book (declare letter opening) r
+  pub declared : line .declared ≡ false → length (book .lines) ≡ 15 → (later : Book) → later ≡ withLineOf book letter (newLine opening) → r ≡ acceptedOf later (answer.Line letter opening) nothing → SettledAnyhow book (declare letter opening) r
   unfolding accept slotsAfter
   declared d n later el er slots =
       rw (first-is slots false d, er, el)
       record {
-        outcome = rw (view-with-line book slots slots letter (newLine opening) (sound .letter) n (λ other year c differ. refl), new-line slots letter opening (sound .limits));
+        outcome = rw (lines-put (book .lines) slots slots letter (newLine opening) (sound .letter) n (λ other year c differ. refl), new-line slots letter opening (sound .limits));
         lent = refl;
         whole = refl;
       }

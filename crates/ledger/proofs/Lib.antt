@@ -1,14 +1,10 @@
 pub mod Declared
-pub mod EmptyBook
-pub mod FactorLimits
-pub mod KeptPatterns
 pub mod LineEnds
 pub mod LineRead
+pub mod Maps
 pub mod PatternAdded
 pub mod PatternAsked
-pub mod Places
 pub mod Publishing
-pub mod RatePlaces
 pub mod RateSet
 pub mod Reading
 pub mod RowLoops
@@ -16,7 +12,5 @@ pub mod RowPatterns
 pub mod Runs
 pub mod Settling
 pub mod Turns
-pub mod Views
-pub mod Writes
 pub mod YearAsked
 pub mod YearClosed

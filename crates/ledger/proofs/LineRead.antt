@@ -11,14 +11,13 @@ use Rattle.model.specs.Book as model
 use Rattle.model.specs.Call.{declare, setRate, addPattern, closeYear}
 use Rattle.model.specs.Step.{asBytes, asNumbers}
 use Rattle.record.specs.declared.request.Request.{Request}
-use Rattle.record.specs.declared.request.Verdict.{Verdict}
 use Rattle.record.specs.declared.request.Verdict.the-variants as verdict
 use Rattle.record.specs.Request.{says, readOf}
 use Rattle.record.proofs.Answers.{said}
-use Rattle.ledger.specs.declared.book.Book.{Book}
+use Rattle.state.specs.declared.book.Book.{Book}
 use Rattle.ledger.specs.declared.answer.Refusal.the-variants as refusal
 use Rattle.ledger.specs.declared.answer.Outcome.{Outcome}
-use Rattle.ledger.specs.View.{view}
+use Rattle.state.specs.View.{view}
 use Rattle.ledger.specs.Answer.{refusedOf}
 use Rattle.ledger.specs.Does.{Does, DoesAnyhow}
 use Rattle.ledger.specs.Apply.{patternCall, yearCall}

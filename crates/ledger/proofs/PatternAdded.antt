@@ -21,15 +21,17 @@ use Rattle.model.proofs.Ages.{ages-small, length-ages-of, schedule-sized, kept-
 use Rattle.factor.specs.declared.pattern.Pattern.{Pattern}
 use Rattle.factor.specs.declared.pattern.Verdict.the-variants.{Fine}
 use Rattle.factor.specs.Pattern.{patternOf}
-use Rattle.ledger.specs.declared.book.Book.{Book}
-use Rattle.ledger.specs.declared.book.Line.{Line}
+use Rattle.state.specs.declared.book.Book.{Book}
+use Rattle.state.specs.declared.book.Line.{Line}
 use Rattle.ledger.specs.declared.answer.Outcome.{Outcome}
-use Rattle.ledger.specs.Patterns.{slotOf, written}
-use Rattle.ledger.specs.View.{view}
+use Rattle.state.specs.Patterns.{slotOf, withPatternOf, written}
+use Rattle.state.specs.View.{view}
 use Rattle.ledger.specs.Does.{slotsAfter, Settled}
-use Rattle.ledger.specs.AddPattern.{withPatternOf, patternOutcome, Turned}
-use Rattle.ledger.proofs.Views.{line-is, view-with-line}
-use Rattle.ledger.proofs.KeptPatterns.{beside, pattern-kept, numbers-are, published-whole, published-factors, published-composite}
+use Rattle.ledger.specs.AddPattern.{patternOutcome, Turned}
+use Rattle.state.proofs.Views.{line-is, lines-put}
+use Rattle.state.proofs.KeptPatterns.{beside, pattern-kept, numbers-are}
+use Rattle.ledger.proofs.Publishing.{published-whole, published-factors, published-composite}
+use Rattle.ledger.proofs.Turns.{next-year}
 use Rattle.ledger.proofs.PatternAsked.{passes}
 
 module _ (book : Book) (line : Line) (letter year rate : ℕ) (paid incurred : List ℕ) (pre : Turned book line letter year rate paid incurred) where
@@ -59,8 +61,8 @@ module _ (book : Book) (line : Line) (letter year rate : ℕ) (paid incurred : L
             rw (
               published-factors kept (ages letter) prior count (ages-small letter),
               published-composite kept (ages letter) prior count (ages-small letter),
-              view-with-line book slots (written slots (slotOf letter year) ((kept ++ replicate (10 - ages letter) 0) ++ (prior ∷ []))) letter (withPatternOf letter line year) (pre .sound .letter) lines (beside slots letter year rate pay (pre .sound .letter) places count),
-              pattern-kept slots letter year rate pay (pre .sound .letter) places count line is-year (pre .turn),
+              lines-put (book .lines) slots (written slots (slotOf letter year) ((kept ++ replicate (10 - ages letter) 0) ++ (prior ∷ []))) letter (withPatternOf letter line year) (pre .sound .letter) lines (beside slots letter year rate pay (pre .sound .letter) places count),
+              pattern-kept slots letter year rate pay (pre .sound .letter) places count line is-year (next-year letter line year (pre .turn)),
               pre .rated,
               line-is book slots letter (pre .sound .letter),
               ← (pre .here),

@@ -3,7 +3,7 @@
 use mathlib.Core.Bool.{Bool, true, false, _&&_}
 use mathlib.Core.List.{List}
 use mathlib.Core.Path.{_≡_, refl, sym, ap, _∙_}
-use mathlib.Core.Option.{Option, none, some}
+use mathlib.Core.Option.{none, some}
 use Prim.Native.Nat.{ℕ}
 use native.Mathlib.Omega.{arith}
 use Rattle.model.specs.Basics.{if_then_else_, given, all}
@@ -19,22 +19,22 @@ use Rattle.kinds.specs.Rate.{rateNumber}
 use Rattle.factor.specs.declared.pattern.Pattern.{Pattern}
 use Rattle.factor.specs.declared.pattern.Verdict.the-variants as verdict
 use Rattle.factor.specs.Pattern as factor
-use Rattle.factor.specs.Pattern.{keptOf, judgedOf, patternOf}
-use Rattle.ledger.specs.declared.book.Book.{Book}
-use Rattle.ledger.specs.declared.book.Line.{Line}
-use Rattle.ledger.specs.declared.answer.Refusal.{Refusal}
+use Rattle.factor.specs.Pattern.{keptOf, patternOf}
+use Rattle.state.specs.declared.book.Book.{Book}
+use Rattle.state.specs.declared.book.Line.{Line}
 use Rattle.ledger.specs.declared.answer.Refusal.the-variants as refusal
 use Rattle.ledger.specs.declared.answer.Outcome.{Outcome}
 use Rattle.ledger.specs.declared.rates.YearRate.{YearRate}
 use Rattle.ledger.specs.declared.rates.YearRate.the-variants as year-rate
-use Rattle.ledger.specs.Rates.{ratesOf, yearRate}
-use Rattle.ledger.specs.Lines.{lineAt}
-use Rattle.ledger.specs.View.{view}
-use Rattle.ledger.specs.Answer.{numberOf, refusedOf}
+use Rattle.state.specs.Rates.{ratesOf}
+use Rattle.ledger.specs.YearRate.{yearRate}
+use Rattle.state.specs.Lines.{lineAt}
+use Rattle.state.specs.View.{view}
+use Rattle.ledger.specs.Answer.{refusedOf}
 use Rattle.ledger.specs.Does.{Sound, Settled, Does}
 use Rattle.ledger.specs.AddPattern.{followsLast, Turned}
-use Rattle.ledger.proofs.Settling.{refused, letter-refused, count-refused, limits-refused, goes-on-does}
-use Rattle.ledger.proofs.Views.{line-is, declared-is}
+use Rattle.ledger.proofs.Settling.{refused, goes-on-does}
+use Rattle.state.proofs.Views.{line-is, declared-is}
 use Rattle.ledger.proofs.Turns.{follows-is}
 
 -- questions 3, 4 and 6

@@ -4,7 +4,7 @@ use mathlib.Core.Bool.{Bool, true, false, _&&_}
 use mathlib.Core.List.{List}
 use mathlib.Core.Path.{_≡_, refl, sym, ap, _∙_}
 use mathlib.Core.Option.{Option, none, some}
-use Prim.Native.Nat.{ℕ, _≤_, min}
+use Prim.Native.Nat.{ℕ, _≤_}
 use native.Mathlib.Omega.{arith}
 use borrow.Author.Tests.{eqb-true}
 use lib.Dec.{eqb}
@@ -22,19 +22,20 @@ use Rattle.factor.specs.Rate.{meanOf}
 use Rattle.factor.specs.declared.rate.Mean.{Mean}
 use Rattle.factor.specs.declared.rate.Mean.the-variants as mean
 use Rattle.factor.proofs.Totals.{sum-small}
-use Rattle.ledger.specs.declared.book.Book.{Book}
+use Rattle.state.specs.declared.book.Book.{Book}
 use Rattle.ledger.specs.declared.answer.Refusal.the-variants as refusal
 use Rattle.ledger.specs.declared.answer.Answer.the-variants as answer
 use Rattle.ledger.specs.declared.answer.Outcome.{Outcome}
 use Rattle.ledger.specs.declared.rates.YearRate.{YearRate}
 use Rattle.ledger.specs.declared.rates.YearRate.the-variants as year-rate
-use Rattle.ledger.specs.Rates.{ratesOf, yearRate, withRateOf}
-use Rattle.ledger.specs.View.{view}
-use Rattle.ledger.specs.Answer.{refusedOf, acceptedOf}
-use Rattle.ledger.specs.Does.{slotsAfter, Sound, SettledAnyhow, DoesAnyhow}
+use Rattle.state.specs.Rates.{ratesOf, withRateOf}
+use Rattle.ledger.specs.YearRate.{yearRate}
+use Rattle.state.specs.View.{view}
+use Rattle.ledger.specs.Answer.{nothing, refusedOf, acceptedOf}
+use Rattle.ledger.specs.Does.{slotsAfter, SettledAnyhow, DoesAnyhow}
 use Rattle.ledger.specs.SetRate.{Averaged}
 use Rattle.ledger.proofs.Settling.{refused, count-refused, limits-refused, goes-on-anyhow}
-use Rattle.ledger.proofs.RatePlaces.{rates-put}
+use Rattle.state.proofs.RatePlaces.{rates-put}
 
 -- a mean by its two tests
 abbrev by-tests : Bool → Bool → Rate → Mean
@@ -112,7 +113,7 @@ module _ (book : Book) (year : ℕ) (rate : Rate) (months : List ℕ) (pre : Ave
   rate-given old e er slots =
       refused book refusal.Given (firstNo (bookQuestions (view book slots) (setRate year months))) (setRate year months) slots r (first-is slots (some (rateNumber old)) (sym eb ∙ ap yearRate e)) er
 
-  pub rate-set : before ≡ year-rate.Missing → length (book .rates) ≡ 113 → (later : Book) → later ≡ withRateOf book year (rateNumber rate) → (n : ℕ) → n ≡ rateNumber rate → r ≡ acceptedOf later (answer.Rate year n) → SettledAnyhow book (setRate year months) r
+  pub rate-set : before ≡ year-rate.Missing → length (book .rates) ≡ 113 → (later : Book) → later ≡ withRateOf book year (rateNumber rate) → (n : ℕ) → n ≡ rateNumber rate → r ≡ acceptedOf later (answer.Rate year n) nothing → SettledAnyhow book (setRate year months) r
   unfolding accept slotsAfter
   rate-set e len later el n en er slots =
       rw (first-is slots none (sym eb ∙ ap yearRate e), er, el, en)

@@ -1,33 +1,32 @@
 -- What the code reads of the book is what the view shows.
 -- Assumes nothing.
 use mathlib.Core.Bool.{Bool, true, false, false≢true}
-use mathlib.Core.List.{List, [], _∷_, _++_, map, map-append}
+use mathlib.Core.List.{List, _++_, map}
 use mathlib.Core.Option.{none, some}
 use mathlib.Core.Path.{_≡_, refl, sym, _∙_}
 use Prim.Native.Nat.{ℕ, zero, suc, _+_, _-_, _*_, _≤_, _<_, min}
 use native.Mathlib.Nat.{add-sub-cancel-left}
-use native.Mathlib.Numerals.{add-one}
 use native.Mathlib.Omega.{arith}
 use borrow.Author.Tests.{ne-eqb, le-leb, lt-leb, leb-true, leb-false, ltb-true, ltb-false}
 use lib.Dec.{leb, ltb}
-use lib.ListN.{length, take, drop, getD, set, replicate, length-take, length-drop, length-map}
-use lib.Seq.{take-length, take-suc, take-take, length-take-le, append-snoc, set-at}
+use lib.ListN.{length, take, drop, replicate, length-take, length-drop}
+use lib.Seq.{take-take}
 use Rattle.model.specs.Basics.{if_then_else_}
 use Rattle.model.specs.Book.{find}
 use Rattle.model.specs.Kind.{isYear}
 use Rattle.model.specs.Letter.{covered, ages}
 use Rattle.model.proofs.Ages.{ages-small}
-use Rattle.ledger.specs.declared.book.Book.{Book}
-use Rattle.ledger.specs.declared.book.Line.{Line}
+use Rattle.state.specs.declared.book.Book.{Book}
+use Rattle.state.specs.declared.book.Line.{Line}
 use Rattle.ledger.specs.declared.read.LineFigures.{LineFigures}
 use Rattle.ledger.specs.declared.read.LineFigures.the-variants as figures
 use Rattle.ledger.specs.declared.read.KeptPattern.{KeptPattern}
-use Rattle.ledger.specs.Lines.{lineAt}
-use Rattle.ledger.specs.Patterns.{slotOf, slotAt, factorIn, keptIn, keptBack, keptCount}
-use Rattle.ledger.specs.View.{lineOf, linesOf, view}
+use Rattle.state.specs.Lines.{lineAt}
+use Rattle.state.specs.Patterns.{slotOf, slotAt, factorIn, keptIn, keptBack, keptCount}
+use Rattle.state.specs.View.{lineOf, linesOf, view}
 use Rattle.ledger.specs.Read.{FiguresAre, LineFiguresAre, isKept, keptPatternOf}
-use Rattle.ledger.proofs.RowPatterns.{kept-few, kept-year, find-kept, find-none}
-use Rattle.ledger.proofs.Views.{line-is}
+use Rattle.state.proofs.KeptYears.{kept-few, kept-year, find-kept, find-none}
+use Rattle.state.proofs.Views.{line-is}
 
 -- the figures of a line
 module _ (line : Line) (r : LineFigures) where
@@ -114,39 +113,6 @@ module _ (book : Book) (slots : List ℕ) (letter year : ℕ) where
 
       pub pattern-none : t ≡ false → r ≡ record { found = false; factors = replicate 10 0; composite = 0 } → r ≡ keptPatternOf letter (find year (view book slots .lines letter .kept))
       pattern-none k e = rw (find-if (covered letter) refl, ← et, k, e)
-
--- the loop that reads at most ten factors: those before place k are read
-pub record Numbers (list factors : List ℕ) (k : ℕ) : Type 0 where
-  pub few : length list ≤ 10
-  pub inside : k ≤ length list
-  pub all : factors ≡ map factorIn (take k list) ++ replicate (10 - k) 0
-
-pub read-start : (list : List ℕ) → length list ≤ 10 → Numbers list (replicate 10 0) 0
-read-start list few = record { few = few; inside = omega arith; all = refl }
-
-module _ (list factors : List ℕ) (k : ℕ) (n : Numbers list factors k) where
-  pub read-on : (factor : ℕ) → k < length list → factor ≡ factorIn (getD list k 0) → Numbers list (set factors k factor) (k + 1)
-  read-on factor lt e =
-      let free : 10 - k ≡ suc (10 - (k + 1)) = omega (arith, n .few) in
-      let count : length (map factorIn (take k list)) ≡ k = length-map (take k list) factorIn ∙ length-take-le k list (n .inside) in
-      record {
-        few = n .few;
-        inside = omega arith;
-        all =
-            rw (
-              n .all,
-              free,
-              set-at (map factorIn (take k list)) 0 (replicate (10 - (k + 1)) 0) factor k count,
-              add-one k,
-              take-suc list k 0 lt,
-              map-append factorIn (take k list) (getD list k 0 ∷ []),
-              append-snoc,
-              e,
-            );
-      }
-
-  pub read-end : length list ≤ k → factors ≡ map factorIn list ++ replicate (10 - length list) 0
-  read-end le = let last : k ≡ length list = omega (arith, n .inside) in rw (n .all, last, take-length list)
 
 -- the part of the lent list that holds a slot's factors
 module _ (slots : List ℕ) (letter year slot n : ℕ) (es : slot ≡ slotOf letter year) (en : n ≡ ages letter) (l : length slots ≡ 1650) (lt : slot < 150) where

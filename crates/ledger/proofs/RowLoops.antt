@@ -15,8 +15,8 @@ use lib.Seq.{getD-set-same, getD-set-other}
 use Rattle.model.specs.Letter.{ages}
 use Rattle.model.proofs.Ages.{ages-small}
 use Rattle.reserve.specs.Lists.{statedRows}
-use Rattle.ledger.specs.declared.book.Line.{Line}
-use Rattle.ledger.specs.Patterns.{slotOf, slotAt, factorIn, keptCount}
+use Rattle.state.specs.declared.book.Line.{Line}
+use Rattle.state.specs.Patterns.{slotOf, slotAt, factorIn, keptCount}
 use Rattle.ledger.specs.Rows.{Paired, havePatterns, rowFactorOf, FactorsOf}
 
 -- question 13, one row more, and no more rows

@@ -1,20 +1,20 @@
 -- A whole input, line by line.
 -- Assumes nothing.
-use mathlib.Core.List.{List, [], _∷_, map}
-use mathlib.Core.Path.{_≡_, refl, sym, ap, _∙_}
-use Prim.Native.Nat.{ℕ, suc, _+_, _-_, _≤_, _<_}
+use mathlib.Core.List.{List, [], map}
+use mathlib.Core.Path.{_≡_, sym, ap, _∙_}
+use Prim.Native.Nat.{ℕ, suc, _+_, _-_, _≤_}
 use native.Mathlib.Omega.{arith}
 use native.Mathlib.Numerals.{add-one}
 use lib.ListN.{length, take, drop, drop-of-length-le}
 use Rattle.model.specs.Book as model
 use Rattle.model.specs.Input.{linesOf}
 use Rattle.model.specs.Step as model-step
-use Rattle.model.specs.Step.{asBytes, step}
+use Rattle.model.specs.Step.{asBytes}
 use Rattle.model.specs.Run.{after, recordsOf}
 use Rattle.model.proofs.Demand.{demand-of-input}
-use Rattle.ledger.specs.declared.book.Book.{Book}
+use Rattle.state.specs.declared.book.Book.{Book}
 use Rattle.ledger.specs.declared.answer.Outcome.{Outcome}
-use Rattle.ledger.specs.View.{view, IsEmpty}
+use Rattle.state.specs.View.{view, IsEmpty}
 use Rattle.ledger.specs.Does.{Does}
 use Rattle.ledger.specs.Apply.{slotsAfterAll, Runs}
 use Rattle.ledger.specs.Input.{LineEnd}

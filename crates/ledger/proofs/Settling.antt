@@ -3,7 +3,7 @@
 use mathlib.Core.Bool.{Bool, true, false}
 use mathlib.Core.List.{List, [], _∷_, _++_}
 use mathlib.Core.Path.{_≡_, refl, sym, _∙_}
-use mathlib.Core.Option.{Option, none, some}
+use mathlib.Core.Option.{Option, some}
 use Prim.Native.Nat.{ℕ}
 use Rattle.model.specs.Basics.{if_then_else_}
 use Rattle.model.specs.Book as model
@@ -13,11 +13,11 @@ use Rattle.model.specs.History.{orElse}
 use Rattle.model.specs.Step.{Request, asBytes, asNumbers, asked, questions, callOf, refuse, step}
 use Rattle.record.specs.Request.{refusedAt, asks, readOf}
 use Rattle.record.proofs.Answers.{refused-is, asked-is, asked-sound}
-use Rattle.ledger.specs.declared.book.Book.{Book}
+use Rattle.state.specs.declared.book.Book.{Book}
 use Rattle.ledger.specs.declared.answer.Refusal.{Refusal}
 use Rattle.ledger.specs.declared.answer.Refusal.the-variants.{Letter, Count, Limits}
 use Rattle.ledger.specs.declared.answer.Outcome.{Outcome}
-use Rattle.ledger.specs.View.{view}
+use Rattle.state.specs.View.{view}
 use Rattle.ledger.specs.Answer.{numberOf, refusedOf}
 use Rattle.ledger.specs.Does.{slotsAfter, Sound, Settles, Settled, Does, SettledAnyhow, DoesAnyhow}
 

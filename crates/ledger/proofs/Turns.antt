@@ -2,37 +2,29 @@
 -- Assumes nothing.
 use mathlib.Core.Bool.{Bool, true, false, not, _&&_}
 use mathlib.Core.List.{List}
-use mathlib.Core.Path.{_≡_, refl, sym, _∙_}
+use mathlib.Core.Path.{_≡_, refl, sym}
 use mathlib.Core.Option.{Option, none, some}
-use Prim.Native.Nat.{ℕ, zero, suc, _+_, _≤_, _<_, min}
+use Prim.Native.Nat.{ℕ, zero, suc, _+_, _<_, min}
 use native.Mathlib.Omega.{arith}
 use native.Mathlib.Numerals.{add-one}
-use borrow.Author.Tests.{eq-eqb, ne-eqb, leb-true}
+use borrow.Author.Tests.{eq-eqb, ne-eqb, eqb-true, leb-true}
 use mir.Syntax.{w64}
 use mir.Val.{Fits}
 use lib.Dec.{eqb, leb}
 use Rattle.model.specs.Basics.{if_then_else_}
 use Rattle.model.specs.Kind.{isYear}
-use Rattle.model.specs.Letter.{ages}
 use Rattle.model.specs.Book as model
 use Rattle.model.specs.Book.{latest}
 use Rattle.model.specs.Question.{follows, isYearOf, isOpen}
 use Rattle.model.proofs.Lists.{and-right}
-use Rattle.ledger.specs.declared.book.Line.{Line}
-use Rattle.ledger.specs.Patterns.{keptBack, keptCount}
-use Rattle.ledger.specs.View.{lineOf}
+use Rattle.state.specs.declared.book.Line.{Line}
+use Rattle.state.specs.Patterns.{keptBack, keptCount}
+use Rattle.state.specs.View.{lineOf}
+use Rattle.state.proofs.KeptYears.{last-year}
 use Rattle.ledger.specs.AddPattern.{followsLast}
 use Rattle.ledger.specs.CloseYear.{isDue}
 
--- a line that keeps a pattern has its last one's year
-by-year : (y : Bool) (n : ℕ) → 0 < (if y then n else 0) → y ≡ true
-by-year true n h = refl
-by-year false n h = absurd (omega arith)
-
-pub last-year : (letter : ℕ) (line : Line) → 0 < keptCount letter line → isYear (line .last) ≡ true
-unfolding keptCount
-last-year letter line h = by-year (isYear (line .last)) (min (line .kept) (ages letter)) h
-
+-- a year follows the last one
 pub next-year-fits : (letter : ℕ) (line : Line) (n : ℕ) → n ≡ keptCount letter line → (n ≡ 0 → ⊥) → Fits w64 (line .last + 1)
 next-year-fits letter line n en z =
     let y = last-year letter line (omega (arith, z)) in
@@ -107,3 +99,15 @@ follows-is slots letter line year = follows-by slots letter line year (min (line
 pub due-is : (slots : List ℕ) (letter : ℕ) (line : Line) (year : ℕ) → (isYearOf (latest (lineOf slots letter line .kept)) year && isOpen (lineOf slots letter line .closed) year) ≡ isDue letter line year
 unfolding lineOf isDue
 due-is slots letter line year = due-by slots letter line year (min (line .closing) 110000000000) (keptCount letter line) (isYear (line .closed))
+
+-- a line that keeps a pattern is followed by the year after its last one
+next-by : (z y closed : Bool) → z ≡ false → (if z then true else (if y then closed else false)) ≡ true → y ≡ true
+next-by z true closed e f = refl
+next-by true false closed e f = sym e
+next-by false false closed e f = f
+
+pub next-year : (letter : ℕ) (line : Line) (year : ℕ) → followsLast letter line year ≡ true → 0 < keptCount letter line → year ≡ line .last + 1
+unfolding followsLast
+next-year letter line year f some-kept =
+    eqb-true year (line .last + 1)
+    (next-by (eqb (keptCount letter line) 0) (eqb year (line .last + 1)) (if isYear (line .closed) then eqb (line .closed) (line .last) else true) (ne-eqb (keptCount letter line) 0 (λ e. omega arith)) f)

@@ -20,19 +20,19 @@ use Rattle.model.specs.Step.{asNumbers}
 use Rattle.model.proofs.Lists.{and-left, and-right, true≢false}
 use Rattle.reserve.specs.YearEnd.{hasLimits}
 use Rattle.reserve.proofs.Verdicts.{limits-of-year}
-use Rattle.ledger.specs.declared.book.Book.{Book}
-use Rattle.ledger.specs.declared.book.Line.{Line}
+use Rattle.state.specs.declared.book.Book.{Book}
+use Rattle.state.specs.declared.book.Line.{Line}
 use Rattle.ledger.specs.declared.answer.Refusal.the-variants as refusal
 use Rattle.ledger.specs.declared.answer.Outcome.{Outcome}
-use Rattle.ledger.specs.Lines.{lineAt}
-use Rattle.ledger.specs.Patterns.{keptCount}
+use Rattle.state.specs.Lines.{lineAt}
+use Rattle.state.specs.Patterns.{keptCount}
 use Rattle.ledger.specs.Rows.{Paired, havePatterns}
-use Rattle.ledger.specs.View.{lineOf, view}
+use Rattle.state.specs.View.{lineOf, view}
 use Rattle.ledger.specs.Answer.{refusedOf}
 use Rattle.ledger.specs.Does.{Sound, Settled, Does, DoesAnyhow}
 use Rattle.ledger.specs.CloseYear.{isDue, Turned, Passed}
 use Rattle.ledger.proofs.Settling.{refused, limits-refused, goes-on-does}
-use Rattle.ledger.proofs.Views.{line-is, declared-is}
+use Rattle.state.proofs.Views.{line-is, declared-is}
 use Rattle.ledger.proofs.Turns.{due-is}
 use Rattle.ledger.proofs.RowPatterns.{have-patterns-is}
 

@@ -10,32 +10,31 @@ use lib.IntN.{ℤ}
 use lib.ListN.{length}
 use Rattle.model.specs.Basics.{if_then_else_}
 use Rattle.model.specs.Kind.{isYear}
-use Rattle.model.specs.Letter.{covered, ages}
+use Rattle.model.specs.Letter.{ages}
 use Rattle.model.specs.Row.{Row, rowsOf}
 use Rattle.model.specs.Book as model
 use Rattle.model.specs.YearEnd.{closing, opening, paidTotal, loss}
-use Rattle.model.specs.Call.{Call, closeYear}
+use Rattle.model.specs.Call.{closeYear}
 use Rattle.model.specs.Step.{withClosing, accept}
 use Rattle.model.proofs.Lists.{and-left, and-right}
-use Rattle.kinds.specs.Closing.{closingNumber}
 use Rattle.reserve.specs.YearEnd.{hasLimits, yearEnd}
 use Rattle.reserve.specs.declared.year_end.YearEnd.{YearEnd}
 use Rattle.reserve.specs.declared.year_end.Verdict.the-variants.{Fine}
 use Rattle.reserve.proofs.Closings.{RowFactors, closing-of-line}
 use Rattle.reserve.proofs.Lists.{rows-count}
 use Rattle.reserve.proofs.Verdicts.{limits-of-year, closing-limit, year-end-of-line}
-use Rattle.ledger.specs.declared.book.Book.{Book}
-use Rattle.ledger.specs.declared.book.Line.{Line}
+use Rattle.state.specs.declared.book.Book.{Book}
+use Rattle.state.specs.declared.book.Line.{Line}
 use Rattle.ledger.specs.declared.answer.Answer.the-variants as answer
 use Rattle.ledger.specs.declared.answer.Outcome.{Outcome}
-use Rattle.ledger.specs.Lines.{lineAt, withLineOf}
-use Rattle.ledger.specs.Patterns.{keptCount}
+use Rattle.state.specs.Lines.{withLineOf, withClosingOf}
+use Rattle.state.specs.Patterns.{keptCount}
 use Rattle.ledger.specs.Rows.{FactorsOf}
-use Rattle.ledger.specs.View.{lineOf, view}
-use Rattle.ledger.specs.Answer.{acceptedOf}
+use Rattle.state.specs.View.{lineOf, view}
+use Rattle.ledger.specs.Answer.{nothing, acceptedOf}
 use Rattle.ledger.specs.Does.{slotsAfter, Settled}
-use Rattle.ledger.specs.CloseYear.{openingOf, withClosingOf, Passed}
-use Rattle.ledger.proofs.Views.{line-is, view-with-line}
+use Rattle.ledger.specs.CloseYear.{openingOf, Passed}
+use Rattle.state.proofs.Views.{line-is, lines-put}
 use Rattle.ledger.proofs.RowPatterns.{row-factors-are}
 use Rattle.ledger.proofs.YearAsked.{due-kept, due-last, passes}
 
@@ -99,12 +98,12 @@ module _ (book : Book) (line : Line) (letter year : ℕ) (paid : List ℤ) (unpa
 
     pub year-closed : length (book .lines) ≡ 15 → (o : ℕ) → o ≡ openingOf line → (end : YearEnd) → end ≡ yearEnd letter paid unpaid tabular factors (min o 110000000000)
         → (closed : Line) → closed ≡ withClosingOf line year (end .closing) → (later : Book) → later ≡ withLineOf book letter closed
-        → (p : ℤ) → p ≡ end .paid → (v : ℤ) → v ≡ end .loss → (r : Outcome) → r ≡ acceptedOf later (answer.Tax letter year p o (end .closing) v) → Settled (view book slots) (closeYear letter year paid unpaid tabular) slots r slots
+        → (p : ℤ) → p ≡ end .paid → (v : ℤ) → v ≡ end .loss → (r : Outcome) → r ≡ acceptedOf later (answer.Tax letter year p o (end .closing) v) nothing → Settled (view book slots) (closeYear letter year paid unpaid tabular) slots r slots
     unfolding accept slotsAfter
     year-closed n o eo end ee closed ec later el p ep v ev r er =
         rw (passes book line letter year paid unpaid tabular pre slots, er, ep, ev, el, ec, ee, eo, end-is)
         record {
-          outcome = rw (view-with-line book slots slots letter (withClosingOf line year amount) (pre .turned .sound .letter) n (λ other y c differ. refl), closed-line slots letter line year amount is-year amount-small, line-is book slots letter (pre .turned .sound .letter), ← (pre .turned .here), opening-is slots letter line (pre .turned .declared));
+          outcome = rw (lines-put (book .lines) slots slots letter (withClosingOf line year amount) (pre .turned .sound .letter) n (λ other y c differ. refl), closed-line slots letter line year amount is-year amount-small, line-is book slots letter (pre .turned .sound .letter), ← (pre .turned .here), opening-is slots letter line (pre .turned .declared));
           lent = refl;
           whole = refl;
         }

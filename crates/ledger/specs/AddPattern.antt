@@ -10,13 +10,14 @@ use Rattle.model.specs.Basics.{if_then_else_}
 use Rattle.model.specs.Kind.{isYear}
 use Rattle.model.specs.Published.{published}
 use Rattle.model.specs.Call.{addPattern}
-use Rattle.ledger.specs.declared.book.Book.{Book}
-use Rattle.ledger.specs.declared.book.Line.{Line}
+use Rattle.state.specs.declared.book.Book.{Book}
+use Rattle.state.specs.declared.book.Line.{Line}
 use Rattle.ledger.specs.declared.answer.Outcome.{Outcome}
 use Rattle.ledger.specs.declared.answer.Answer.the-variants as answer
-use Rattle.ledger.specs.Rates.{ratesOf}
-use Rattle.ledger.specs.Lines.{lineAt, withLineOf}
-use Rattle.ledger.specs.Patterns.{keptCount}
+use Rattle.state.specs.Rates.{ratesOf}
+use Rattle.state.specs.Lines.{lineAt, withLineOf}
+use Rattle.state.specs.Patterns.{keptCount, withPatternOf}
+use Rattle.ledger.specs.Answer.{acceptedOf}
 use Rattle.ledger.specs.Does.{Sound}
 
 -- question 10
@@ -25,18 +26,10 @@ followsLast letter line year =
     if eqb (keptCount letter line) 0 then true else
     (if eqb year (line .last + 1) then (if isYear (line .closed) then eqb (line .closed) (line .last) else true) else false)
 
--- a line with one pattern more
-abbrev pub withPatternOf : ℕ → Line → ℕ → Line
-withPatternOf letter line year =
-    record { declared = line .declared; opening = line .opening; closed = line .closed; closing = line .closing; last = year; kept = keptCount letter line + 1 }
-
+-- what an accepted one leaves
 abbrev pub patternOutcome : Book → Line → ℕ → ℕ → List ℕ → ℕ → Outcome
 patternOutcome book line letter year factors composite =
-    record {
-      book = withLineOf book letter (withPatternOf letter line year);
-      answer = answer.Fact letter year;
-      published = map published factors ++ (published composite ∷ []);
-    }
+    acceptedOf (withLineOf book letter (withPatternOf letter line year)) (answer.Fact letter year) (map published factors ++ (published composite ∷ []))
 
 -- a PATT that questions 3 to 10 let through
 pub record Turned (book : Book) (line : Line) (letter year rate : ℕ) (paid incurred : List ℕ) : Type 0 where

@@ -7,13 +7,13 @@ use Rattle.model.specs.Letter.{ages}
 use Rattle.model.specs.Answer as model
 use Rattle.model.specs.Step as model-step
 use Rattle.model.specs.Step.{oneMore}
-use Rattle.ledger.specs.declared.book.Book.{Book}
+use Rattle.state.specs.declared.book.Book.{Book}
 use Rattle.ledger.specs.declared.answer.Refusal.{Refusal}
 use Rattle.ledger.specs.declared.answer.Refusal.the-variants as refusal
 use Rattle.ledger.specs.declared.answer.Answer.{Answer}
 use Rattle.ledger.specs.declared.answer.Answer.the-variants as answer
 use Rattle.ledger.specs.declared.answer.Outcome.{Outcome}
-use Rattle.ledger.specs.View.{view}
+use Rattle.state.specs.View.{view}
 
 -- each refusal's number
 abbrev pub numberOf : Refusal → ℕ
@@ -39,13 +39,17 @@ answered (answer.Fact letter year) published = model.fact letter year (take (age
 answered (answer.Tax letter year paid opening closing loss) published = model.tax letter year paid opening closing loss
 answered (answer.No question) published = model.refusal (numberOf question)
 
--- what stands beside an answer, whole: a FACT's factors, zeros up to ten, and its composite; or zeros
+-- what stands beside any answer but a FACT
+abbrev pub nothing : List ℕ
+nothing = replicate 11 0
+
+-- what stands beside an answer, whole: a FACT's factors, zeros up to ten, and its composite; or nothing
 abbrev pub beside : model.Answer → List ℕ
-beside (model.declared letter opening) = replicate 11 0
-beside (model.rated year rate) = replicate 11 0
+beside (model.declared letter opening) = nothing
+beside (model.rated year rate) = nothing
 beside (model.fact letter year factors composite) = factors ++ (replicate (10 - length factors) 0 ++ (composite ∷ []))
-beside (model.tax letter year paid opening closing loss) = replicate 11 0
-beside (model.refusal question) = replicate 11 0
+beside (model.tax letter year paid opening closing loss) = nothing
+beside (model.refusal question) = nothing
 
 -- the model's outcome that an outcome and the lent list are
 abbrev pub outcomeOf : Outcome → List ℕ → model-step.Outcome
@@ -56,8 +60,13 @@ refusedOf book question =
     record {
       book = record { rates = book .rates; lines = book .lines; accepted = book .accepted; refused = oneMore (book .refused) };
       answer = answer.No question;
-      published = replicate 11 0;
+      published = nothing;
     }
 
-abbrev pub acceptedOf : Book → Answer → Outcome
-acceptedOf book given = record { book = book; answer = given; published = replicate 11 0 }
+abbrev pub acceptedOf : Book → Answer → List ℕ → Outcome
+acceptedOf book given published =
+    record {
+      book = record { rates = book .rates; lines = book .lines; accepted = oneMore (book .accepted); refused = book .refused };
+      answer = given;
+      published = published;
+    }

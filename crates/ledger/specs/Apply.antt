@@ -14,8 +14,8 @@ use Rattle.model.specs.Run.{after, recordsOf}
 use Rattle.model.specs.History.{accepted}
 use Rattle.model.specs.Demand.{Holds}
 use Rattle.record.specs.declared.request.Request.{Request}
-use Rattle.ledger.specs.declared.book.Book.{Book}
-use Rattle.ledger.specs.View.{view}
+use Rattle.state.specs.declared.book.Book.{Book}
+use Rattle.state.specs.View.{view}
 use Rattle.ledger.specs.Does.{slotsAfter}
 
 abbrev pub patternCall : Request → Call

@@ -10,10 +10,10 @@ use Rattle.model.specs.Basics.{if_then_else_}
 use Rattle.model.specs.Kind.{isYear}
 use Rattle.model.specs.Letter.{ages}
 use Rattle.model.specs.Call.{closeYear}
-use Rattle.ledger.specs.declared.book.Book.{Book}
-use Rattle.ledger.specs.declared.book.Line.{Line}
-use Rattle.ledger.specs.Lines.{lineAt}
-use Rattle.ledger.specs.Patterns.{keptCount}
+use Rattle.state.specs.declared.book.Book.{Book}
+use Rattle.state.specs.declared.book.Line.{Line}
+use Rattle.state.specs.Lines.{lineAt}
+use Rattle.state.specs.Patterns.{keptCount}
 use Rattle.ledger.specs.Rows.{havePatterns}
 use Rattle.ledger.specs.Does.{Sound}
 
@@ -25,11 +25,6 @@ isDue letter line year =
 
 abbrev pub openingOf : Line → ℕ
 openingOf line = if isYear (line .closed) then min (line .closing) 110000000000 else min (line .opening) 100000000000
-
--- a line with one more year closed
-abbrev pub withClosingOf : Line → ℕ → ℕ → Line
-withClosingOf line year closing =
-    record { declared = line .declared; opening = line .opening; closed = year; closing = closing; last = line .last; kept = line .kept }
 
 -- a YEAR that questions 3 to 10 let through
 pub record Turned (book : Book) (line : Line) (letter year : ℕ) (paid : List ℤ) (unpaid tabular : List ℕ) : Type 0 where

@@ -1,28 +1,22 @@
 -- What every public call promises: the model's outcome, and the whole of the lent list.
 -- Assumes nothing: these are definitions.
-use mathlib.Core.List.{List, [], _∷_, _++_}
+use mathlib.Core.List.{List}
 use mathlib.Core.Bool.{true}
 use mathlib.Core.Path.{_≡_}
 use mathlib.Core.Option.{Option, none, some}
-use Prim.Native.Nat.{ℕ, _-_}
-use lib.ListN.{replicate}
+use Prim.Native.Nat.{ℕ}
 use Rattle.model.specs.Basics.{orDefault}
-use Rattle.model.specs.Letter.{ages}
 use Rattle.model.specs.Pattern.{agesOf}
 use Rattle.model.specs.Tail.{schedule}
-use Rattle.model.specs.Book.{Book, Kept}
+use Rattle.model.specs.Book.{Book}
 use Rattle.model.specs.Call.{Call, declare, setRate, addPattern, closeYear}
 use Rattle.model.specs.Question.{hasLetter, hasLengths, isWithinLimits, bookQuestions, firstNo}
 use Rattle.model.specs.Step.{Request, asked, questions, keptPattern, settle, step}
-use Rattle.ledger.specs.declared.book.Book as code
+use Rattle.state.specs.declared.book.Book as code
 use Rattle.ledger.specs.declared.answer.Outcome.{Outcome}
-use Rattle.ledger.specs.Patterns.{slotOf, written}
-use Rattle.ledger.specs.View.{view}
+use Rattle.state.specs.Patterns.{slotOf, numbersOf, written}
+use Rattle.state.specs.View.{view}
 use Rattle.ledger.specs.Answer.{outcomeOf, beside}
-
--- the numbers of a pattern's slot: its factors, zeros up to ten, and its composite
-abbrev pub numbersOf : ℕ → Kept → List ℕ
-numbersOf letter pattern = pattern .factors ++ (replicate (10 - ages letter) 0 ++ (pattern .composite ∷ []))
 
 -- the lent list after a call that is accepted or refused: a refusal leaves it as it was, and every accepted call but PATT
 unfoldable pub slotsAfter : Option ℕ → Book → Call → List ℕ → List ℕ

@@ -4,10 +4,7 @@ pub mod Apply
 pub mod CloseYear
 pub mod Does
 pub mod Input
-pub mod Lines
-pub mod Patterns
-pub mod Rates
 pub mod Read
 pub mod Rows
 pub mod SetRate
-pub mod View
+pub mod YearRate

@@ -10,15 +10,15 @@ use lib.ListN.{replicate}
 use Rattle.model.specs.Basics.{if_then_else_}
 use Rattle.model.specs.Letter.{covered, ages}
 use Rattle.model.specs.Book as model
-use Rattle.ledger.specs.declared.book.Book.{Book}
-use Rattle.ledger.specs.declared.book.Line.{Line}
+use Rattle.state.specs.declared.book.Book.{Book}
+use Rattle.state.specs.declared.book.Line.{Line}
 use Rattle.ledger.specs.declared.read.BookCounts.{BookCounts}
 use Rattle.ledger.specs.declared.read.LineFigures.{LineFigures}
 use Rattle.ledger.specs.declared.read.LineFigures.the-variants as figures
 use Rattle.ledger.specs.declared.read.KeptPattern.{KeptPattern}
-use Rattle.ledger.specs.Lines.{lineAt}
-use Rattle.ledger.specs.Patterns.{keptCount}
-use Rattle.ledger.specs.View.{lineOf, view}
+use Rattle.state.specs.Lines.{lineAt}
+use Rattle.state.specs.Patterns.{keptCount}
+use Rattle.state.specs.View.{lineOf, view}
 
 -- the counts, whatever the lent list holds
 abbrev pub CountsAre : Book → BookCounts → Type 0

@@ -1,17 +1,17 @@
 -- The patterns that the rows of a year take, by the code's line. The year is that of the last pattern.
 -- Assumes nothing: these are definitions.
-use mathlib.Core.Bool.{Bool, true}
+use mathlib.Core.Bool.{Bool}
 use mathlib.Core.List.{List}
 use mathlib.Core.Path.{_≡_}
-use Prim.Native.Nat.{ℕ, suc, _-_, _≤_, _<_}
+use Prim.Native.Nat.{ℕ, suc, _-_, _<_}
 use lib.Dec.{eqb, ltb}
 use lib.ListN.{length, drop, take, getD}
 use Rattle.model.specs.Basics.{if_then_else_, all}
 use Rattle.model.specs.Letter.{ages}
 use Rattle.model.specs.Row.{gross}
 use Rattle.reserve.specs.Lists.{statedRows}
-use Rattle.ledger.specs.declared.book.Line.{Line}
-use Rattle.ledger.specs.Patterns.{slotOf, slotAt, factorIn, keptCount}
+use Rattle.state.specs.declared.book.Line.{Line}
+use Rattle.state.specs.Patterns.{slotOf, slotAt, factorIn, keptCount}
 
 -- a stated and a disclosed amount for each row
 pub record Paired (letter : ℕ) (unpaid tabular : List ℕ) : Type 0 where

@@ -2,15 +2,14 @@
 use crate::answer::Answer;
 use crate::answer::Outcome;
 use crate::answer::Refusal;
-use crate::answer::refuse;
-use crate::book::Book;
-use crate::book::Line;
 use crate::lines::line_of;
 use crate::lines::with_line;
 use crate::patterns::keep;
 use crate::patterns::kept_count;
 use crate::rates::YearRate;
 use crate::rates::rate_of;
+use crate::settle::accept;
+use crate::settle::refuse;
 use factor::pattern::Verdict;
 use factor::pattern::discount;
 use factor::published::published;
@@ -19,6 +18,9 @@ use kinds::letter::ages;
 use kinds::letter::is_covered;
 use kinds::rate::Rate;
 use kinds::year::is_year;
+use state::book::Book;
+use state::book::Line;
+use state::book::Patterns;
 ghost use mathlib.Core.Bool.{true};
 ghost use mathlib.Core.List.{[], _∷_, _++_, map};
 ghost use mathlib.Core.Path.{_≡_};
@@ -29,15 +31,15 @@ ghost use Rattle.model.specs.Published.{published};
 ghost use Rattle.model.specs.Question.{hasLengths, isWithinLimits};
 ghost use Rattle.model.specs.Step.{asNumbers};
 ghost use Rattle.kinds.specs.Rate.{rateNumber};
-ghost use Rattle.ledger.specs.View.{view};
+ghost use Rattle.state.specs.View.{view};
 ghost use Rattle.ledger.specs.Does.{Does, Sound, Settled};
-ghost use Rattle.ledger.specs.Patterns.{slotOf, written};
-ghost use Rattle.ledger.specs.AddPattern.{followsLast, withPatternOf, patternOutcome, Turned};
+ghost use Rattle.state.specs.Patterns.{slotOf, withPatternOf, written};
+ghost use Rattle.ledger.specs.AddPattern.{followsLast, patternOutcome, Turned};
 
 // Questions 3, 4 and 6, and on.
 pub fn add_pattern(
     book: Book,
-    patterns: &mut [u64; 1650],
+    patterns: &mut Patterns,
     letter: u8,
     year: u64,
     paid: &[u64],
@@ -75,7 +77,7 @@ fn has_limits(year: u64, paid: &[u64], incurred: &[u64]) -> bool
 // "8. PATT, YEAR: is the line declared?" "9. PATT: has the year a rate?" "10. PATT: is it the line's first pattern, or the year after its last one ..", and on.
 fn ask_declared(
     book: Book,
-    patterns: &mut [u64; 1650],
+    patterns: &mut Patterns,
     letter: u8,
     year: u64,
     paid: &[u64],
@@ -118,7 +120,7 @@ fn follows_last(letter: u8, line: Line, year: u64) -> bool
 // "11. PATT: is every incurred above 0 and no paid above its incurred?" "12. PATT: does no cumulative ratio fall from one age to the next?", and the pattern.
 fn ask_ratios(
     book: Book,
-    patterns: &mut [u64; 1650],
+    patterns: &mut Patterns,
     line: Line,
     letter: u8,
     year: u64,
@@ -154,7 +156,7 @@ fn ask_ratios(
 // The pattern kept and published.
 fn keep_pattern(
     book: Book,
-    patterns: &mut [u64; 1650],
+    patterns: &mut Patterns,
     line: Line,
     letter: u8,
     year: u64,
@@ -166,11 +168,11 @@ fn keep_pattern(
 {
     keep(patterns, letter, year, factors, composite);
     let later = with_line(book, letter, with_pattern(letter, line, year));
-    Outcome {
-        book: later,
-        answer: Answer::Fact { letter, year },
-        published: publish(factors, composite),
-    }
+    accept(
+        later,
+        Answer::Fact { letter, year },
+        publish(factors, composite),
+    )
 }
 
 // The line with one pattern more: "A line keeps its latest ten patterns (two-year: two)."

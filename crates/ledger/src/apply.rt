@@ -2,23 +2,23 @@
 use crate::add_pattern::add_pattern;
 use crate::answer::Outcome;
 use crate::answer::Refusal;
-use crate::answer::refuse;
-use crate::book::Book;
 use crate::close_year::close_year;
 use crate::declare::declare;
 use crate::set_rate::set_rate;
+use crate::settle::refuse;
 use kinds::letter::ages;
 use record::read::read;
 use record::request::Request;
 use record::request::Verdict;
-ghost use mathlib.Core.Path.{_≡_};
+use state::book::Book;
+use state::book::Patterns;
 ghost use Rattle.model.specs.Step.{asBytes, asNumbers};
-ghost use Rattle.ledger.specs.View.{view};
+ghost use Rattle.state.specs.View.{view};
 ghost use Rattle.ledger.specs.Does.{Does};
 ghost use Rattle.ledger.specs.Apply.{patternCall, yearCall};
 
 // "Questions put to a record, in this order": 1 to 6 by the reader, which answers a call with numbers, and then those of the call.
-pub fn apply(book: Book, patterns: &mut [u64; 1650], line: &[u8]) -> Outcome
+pub fn apply(book: Book, patterns: &mut Patterns, line: &[u8]) -> Outcome
     ensures { λ r. ⌜ Does (view book (now (patterns .entry))) (asBytes (now (line .entry))) (now (patterns .entry)) r (now (patterns .exit)) ⌝ }
 {
     let request = read(line);
@@ -41,7 +41,7 @@ pub fn apply(book: Book, patterns: &mut [u64; 1650], line: &[u8]) -> Outcome
 }
 
 // The lists of a PATT by its line's ages.
-fn apply_pattern(book: Book, patterns: &mut [u64; 1650], request: Request) -> Outcome
+fn apply_pattern(book: Book, patterns: &mut Patterns, request: Request) -> Outcome
     ensures { λ r. ⌜ Does (view book (now (patterns .entry))) (asNumbers (patternCall request)) (now (patterns .entry)) r (now (patterns .exit)) ⌝ }
 {
     let letter = request.letter;
@@ -59,7 +59,7 @@ fn apply_pattern(book: Book, patterns: &mut [u64; 1650], request: Request) -> Ou
 }
 
 // The lists of a YEAR by its line's ages, and the prior row.
-fn apply_year(book: Book, patterns: &[u64; 1650], request: Request) -> Outcome
+fn apply_year(book: Book, patterns: &Patterns, request: Request) -> Outcome
     ensures { λ r. ⌜ Does (view book (now (patterns .entry))) (asNumbers (yearCall request)) (now (patterns .entry)) r (now (patterns .entry)) ⌝ }
 {
     let letter = request.letter;

@@ -1,14 +1,15 @@
 // A whole input.
 use crate::apply::apply;
-use crate::book::Book;
-use crate::book::empty;
+use state::book::Book;
+use state::book::Patterns;
+use state::book::empty;
 ghost use Prim.Native.Nat.{_<_};
 ghost use lib.ListN.{length};
 ghost use Rattle.ledger.specs.Apply.{Runs};
 ghost use Rattle.ledger.specs.Input.{LineEnd};
 
 // "Each record gets the book that the one before left, and nothing else writes to the book meanwhile.", from the empty book: with demand 3 of the whole list.
-pub fn apply_all(patterns: &mut [u64; 1650], input: &[u8]) -> Book
+pub fn apply_all(patterns: &mut Patterns, input: &[u8]) -> Book
     ensures { λ r. ⌜ Runs (now (input .entry)) (now (patterns .entry)) r (now (patterns .exit)) ⌝ }
 {
     let mut book = empty();

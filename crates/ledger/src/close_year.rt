@@ -2,15 +2,13 @@
 use crate::answer::Answer;
 use crate::answer::Outcome;
 use crate::answer::Refusal;
-use crate::answer::accept;
-use crate::answer::refuse;
-use crate::book::Book;
-use crate::book::Line;
 use crate::lines::line_of;
 use crate::lines::with_line;
 use crate::patterns::kept_count;
 use crate::rows::have_patterns;
 use crate::rows::row_factors;
+use crate::settle::accept;
+use crate::settle::refuse;
 use kinds::closing::Closing;
 use kinds::letter::is_covered;
 use kinds::opening::Opening;
@@ -18,18 +16,22 @@ use kinds::year::is_year;
 use reserve::questions::has_lengths;
 use reserve::questions::has_limits;
 use reserve::year_end::year_end;
+use state::book::Book;
+use state::book::Line;
+use state::book::Patterns;
 ghost use mathlib.Core.Bool.{true};
 ghost use mathlib.Core.Path.{_≡_};
 ghost use Rattle.model.specs.Call.{closeYear};
 ghost use Rattle.model.specs.Step.{asNumbers};
-ghost use Rattle.ledger.specs.View.{view};
+ghost use Rattle.state.specs.View.{view};
 ghost use Rattle.ledger.specs.Does.{Does, Sound, Settled};
-ghost use Rattle.ledger.specs.CloseYear.{isDue, openingOf, withClosingOf, Turned, Passed};
+ghost use Rattle.state.specs.Lines.{withClosingOf};
+ghost use Rattle.ledger.specs.CloseYear.{isDue, openingOf, Turned, Passed};
 
 // Questions 3, 4 and 6, and on.
 pub fn close_year(
     book: Book,
-    patterns: &[u64; 1650],
+    patterns: &Patterns,
     letter: u8,
     year: u64,
     paid: &[i64],
@@ -56,7 +58,7 @@ pub fn close_year(
 // "8. PATT, YEAR: is the line declared?" "10. .. YEAR: is it the year of the last pattern, not yet closed?", and on.
 fn ask_declared(
     book: Book,
-    patterns: &[u64; 1650],
+    patterns: &Patterns,
     letter: u8,
     year: u64,
     paid: &[i64],
@@ -95,7 +97,7 @@ fn is_due(letter: u8, line: Line, year: u64) -> bool
 // "13. YEAR: has every age row with gross above 0 a kept pattern?", and the year end.
 fn ask_patterns(
     book: Book,
-    patterns: &[u64; 1650],
+    patterns: &Patterns,
     line: Line,
     letter: u8,
     year: u64,
@@ -115,7 +117,7 @@ fn ask_patterns(
 // The closing kept, and the tax-basis loss.
 fn end_year(
     book: Book,
-    patterns: &[u64; 1650],
+    patterns: &Patterns,
     line: Line,
     letter: u8,
     year: u64,
@@ -142,6 +144,7 @@ fn end_year(
             closing,
             loss: end.loss,
         },
+        [0; 11],
     )
 }
 

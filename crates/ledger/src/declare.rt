@@ -2,14 +2,14 @@
 use crate::answer::Answer;
 use crate::answer::Outcome;
 use crate::answer::Refusal;
-use crate::answer::accept;
-use crate::answer::refuse;
-use crate::book::Book;
-use crate::book::Line;
 use crate::lines::line_of;
 use crate::lines::with_line;
+use crate::settle::accept;
+use crate::settle::refuse;
 use kinds::letter::is_covered;
 use kinds::opening::is_opening;
+use state::book::Book;
+use state::book::Line;
 ghost use Rattle.model.specs.Call.{declare};
 ghost use Rattle.model.specs.Step.{asNumbers};
 ghost use Rattle.ledger.specs.Does.{Sound, SettledAnyhow, DoesAnyhow};
@@ -45,5 +45,5 @@ fn ask_given(book: Book, letter: u8, opening: u64) -> Outcome
         kept: 0,
     };
     let later = with_line(book, letter, line);
-    accept(later, Answer::Line { letter, opening })
+    accept(later, Answer::Line { letter, opening }, [0; 11])
 }

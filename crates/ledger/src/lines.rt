@@ -1,12 +1,11 @@
 // The lines of the covered letters, each at its place: A to L, then R to T.
-use crate::answer::one_more;
-use crate::book::Book;
-use crate::book::Line;
+use state::book::Book;
+use state::book::Line;
 ghost use mathlib.Core.Bool.{true};
 ghost use mathlib.Core.Path.{_≡_};
 ghost use Prim.Native.Nat.{_<_};
 ghost use Rattle.model.specs.Letter.{covered};
-ghost use Rattle.ledger.specs.Lines.{placeOf, lineAt, withLineOf};
+ghost use Rattle.state.specs.Lines.{placeOf, lineAt, withLineOf};
 
 pub fn place_of(letter: u8) -> usize
     requires { ⌜ covered letter ≡ true ⌝ }
@@ -26,7 +25,7 @@ pub fn line_of(book: Book, letter: u8) -> Line
     book.lines[place]
 }
 
-// The book with a line anew, and one record more accepted.
+// The book with a line anew.
 pub fn with_line(book: Book, letter: u8, line: Line) -> Book
     requires { ⌜ covered letter ≡ true ⌝ }
     ensures { λ r. ⌜ r ≡ withLineOf book letter line ⌝ }
@@ -34,7 +33,5 @@ pub fn with_line(book: Book, letter: u8, line: Line) -> Book
     let mut later = book;
     let place = place_of(letter);
     later.lines[place] = line;
-    let count = one_more(book.accepted);
-    later.accepted = count;
     later
 }

@@ -1,16 +1,17 @@
 // The kept patterns, in the array that the caller lends: a slot of eleven numbers, ten factors and a composite, for each of the ten patterns that a line may keep.
-use crate::book::Line;
 use crate::lines::place_of;
 use kinds::factor::Factor;
 use kinds::letter::ages;
 use kinds::year::is_year;
+use state::book::Line;
+use state::book::Patterns;
 ghost use mathlib.Core.Bool.{true};
 ghost use mathlib.Core.List.{[], _∷_, _++_};
 ghost use mathlib.Core.Path.{_≡_};
 ghost use Prim.Native.Nat.{_<_, _≤_};
 ghost use lib.ListN.{length, getD};
 ghost use Rattle.model.specs.Letter.{covered};
-ghost use Rattle.ledger.specs.Patterns.{slotOf, slotAt, factorIn, keptCount, written};
+ghost use Rattle.state.specs.Patterns.{slotOf, slotAt, factorIn, keptCount, written};
 
 // The slot of a letter and an accident year: of ten successive years each has its own.
 pub fn slot_of(letter: u8, year: u64) -> usize
@@ -36,7 +37,7 @@ pub fn kept_count(letter: u8, line: Line) -> usize
 }
 
 // A factor of a slot, or its composite at place 10.
-pub fn factor_in(patterns: &[u64; 1650], letter: u8, year: u64, place: usize) -> u64
+pub fn factor_in(patterns: &Patterns, letter: u8, year: u64, place: usize) -> u64
     requires { ⌜ (covered letter ≡ true) × (place < 11) ⌝ }
     ensures { λ r. ⌜ r ≡ factorIn (getD (slotAt (now (patterns .entry)) (slotOf letter year)) place 0) ⌝ }
 {
@@ -48,7 +49,7 @@ pub fn factor_in(patterns: &[u64; 1650], letter: u8, year: u64, place: usize) ->
 }
 
 // A slot anew.
-pub fn keep(patterns: &mut [u64; 1650], letter: u8, year: u64, factors: [u64; 10], composite: u64)
+pub fn keep(patterns: &mut Patterns, letter: u8, year: u64, factors: [u64; 10], composite: u64)
     requires { ⌜ covered letter ≡ true ⌝ }
     ensures { λ _. ⌜ (length (now (patterns .entry)) ≡ 1650) × (now (patterns .exit) ≡ written (now (patterns .entry)) (slotOf letter year) (factors ++ (composite ∷ []))) ⌝ }
 {

@@ -1,14 +1,14 @@
 // The rate places, one for each year from 1987 to 2099.
-use crate::answer::one_more;
-use crate::book::Book;
 use kinds::rate::Rate;
 use kinds::year::Year;
 use kinds::year::is_year;
+use state::book::Book;
 ghost use mathlib.Core.Bool.{true};
 ghost use mathlib.Core.Path.{_≡_};
 ghost use Rattle.model.specs.Kind.{isYear};
 ghost use Rattle.kinds.specs.Rate.{rateNumber};
-ghost use Rattle.ledger.specs.Rates.{yearRate, ratesOf, withRateOf};
+ghost use Rattle.state.specs.Rates.{ratesOf, withRateOf};
+ghost use Rattle.ledger.specs.YearRate.{yearRate};
 
 // The rate of an accident year, or that none was given.
 pub enum YearRate {
@@ -30,7 +30,7 @@ pub fn rate_of(book: Book, year: u64) -> YearRate
     YearRate::Missing
 }
 
-// The book with a year's rate, and one record more accepted.
+// The book with a year's rate.
 pub fn with_rate(book: Book, year: u64, rate: Rate) -> Book
     requires { ⌜ isYear year ≡ true ⌝ }
     ensures { λ r. ⌜ r ≡ withRateOf book year (rateNumber rate) ⌝ }
@@ -38,7 +38,5 @@ pub fn with_rate(book: Book, year: u64, rate: Rate) -> Book
     let mut later = book;
     let place = (year - Year::FIRST) as usize;
     later.rates[place] = rate.number() as u16;
-    let count = one_more(book.accepted);
-    later.accepted = count;
     later
 }

@@ -1,6 +1,4 @@
 // What the book holds, for a program or a class: its counts, a line's figures, a kept pattern.
-use crate::book::Book;
-use crate::book::Line;
 use crate::lines::line_of;
 use crate::patterns::factor_in;
 use crate::patterns::kept_count;
@@ -11,6 +9,9 @@ use kinds::letter::ages;
 use kinds::letter::is_covered;
 use kinds::opening::Opening;
 use kinds::year::is_year;
+use state::book::Book;
+use state::book::Line;
+use state::book::Patterns;
 ghost use mathlib.Core.Bool.{true};
 ghost use mathlib.Core.List.{_++_, map};
 ghost use mathlib.Core.Path.{_≡_};
@@ -18,8 +19,8 @@ ghost use Prim.Native.Nat.{_-_, _≤_};
 ghost use lib.ListN.{length, replicate};
 ghost use Rattle.model.specs.Letter.{covered, ages};
 ghost use Rattle.model.specs.Book.{find};
-ghost use Rattle.ledger.specs.Patterns.{factorIn, keptIn};
-ghost use Rattle.ledger.specs.View.{view};
+ghost use Rattle.state.specs.Patterns.{factorIn, keptIn};
+ghost use Rattle.state.specs.View.{view};
 ghost use Rattle.ledger.specs.Read.{CountsAre, FiguresAre, LineFiguresAre, isKept, keptPatternOf};
 
 // How many records were accepted, and how many refused.
@@ -92,7 +93,7 @@ pub struct KeptPattern {
 }
 
 // The pattern of an accident year, where the letter's line keeps it.
-pub fn kept_pattern(book: Book, patterns: &[u64; 1650], letter: u8, year: u64) -> KeptPattern
+pub fn kept_pattern(book: Book, patterns: &Patterns, letter: u8, year: u64) -> KeptPattern
     ensures { λ r. ⌜ r ≡ keptPatternOf letter (find year (view book (now (patterns .entry)) .lines letter .kept)) ⌝ }
 {
     if is_kept(book, letter, year) {

@@ -2,16 +2,16 @@
 use crate::answer::Answer;
 use crate::answer::Outcome;
 use crate::answer::Refusal;
-use crate::answer::accept;
-use crate::answer::refuse;
-use crate::book::Book;
 use crate::rates::YearRate;
 use crate::rates::rate_of;
 use crate::rates::with_rate;
+use crate::settle::accept;
+use crate::settle::refuse;
 use factor::rate::Mean;
 use factor::rate::mean_rate;
 use kinds::rate::Rate;
 use kinds::year::is_year;
+use state::book::Book;
 ghost use Rattle.model.specs.Call.{setRate};
 ghost use Rattle.model.specs.Step.{asNumbers};
 ghost use Rattle.kinds.specs.Rate.{rateNumber};
@@ -52,6 +52,7 @@ fn ask_given(book: Book, year: u64, rate: Rate, months: &[u64]) -> Outcome
                     year,
                     rate: rate.number(),
                 },
+                [0; 11],
             )
         }
     }

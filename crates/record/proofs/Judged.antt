@@ -8,9 +8,9 @@ use native.Mathlib.Omega.{arith}
 use lib.IntN.{ℤ}
 use lib.ListN.{length, take, getD}
 use lib.Seq.{length-take-le}
-use Rattle.model.specs.Basics.{if_then_else_, all}
+use Rattle.model.specs.Basics.{all}
 use Rattle.model.specs.Kind.{isRate, isYear, isOpening, isAmount, isPaid}
-use Rattle.model.specs.Letter.{tenYear, ages}
+use Rattle.model.specs.Letter.{ages}
 use Rattle.model.specs.Call.{Call, declare, setRate, addPattern, closeYear}
 use Rattle.model.specs.Record as model
 use Rattle.model.specs.Question.{isWithinLimits}

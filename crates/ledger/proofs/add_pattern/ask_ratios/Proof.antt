@@ -2,7 +2,7 @@
 use mathlib.Core.Path.{_≡_}
 use lib.ListN.{length}
 use borrow.Author.Needs.{needs}
-use Rattle.ledger.proofs.Views.{length-mapped}
+use Rattle.state.proofs.Views.{length-mapped}
 use Rattle.ledger.proofs.PatternAdded.{pattern-added}
 use Rattle.ledger.proofs.PatternAsked.{no-length, no-limits, not-incurred, falls}
 use Rattle.ledger.proofs.add_pattern.ask_ratios.Statement.{statement}

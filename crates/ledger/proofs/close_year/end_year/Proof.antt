@@ -5,7 +5,7 @@ use borrow.Author.Needs.{needs}
 use mir.Syntax.{w64}
 use mir.Val.{toZ, ofZ}
 use mir.Facts.{toZ-ofZ}
-use Rattle.ledger.proofs.Views.{length-mapped}
+use Rattle.state.proofs.Views.{length-mapped}
 use Rattle.ledger.proofs.YearClosed.{keeps, year-closed}
 use Rattle.ledger.proofs.close_year.end_year.Statement.{statement}
 use Rattle.ledger.proofs.close_year.end_year.Tie as tie

@@ -2,7 +2,7 @@
 use mathlib.Core.Path.{_≡_}
 use lib.ListN.{length}
 use borrow.Author.Needs.{needs}
-use Rattle.ledger.proofs.Views.{length-mapped}
+use Rattle.state.proofs.Views.{length-mapped}
 use Rattle.ledger.proofs.Declared.{given-refused, declared}
 use Rattle.ledger.proofs.declare.ask_given.Statement.{statement}
 use Rattle.ledger.proofs.declare.ask_given.Tie as tie

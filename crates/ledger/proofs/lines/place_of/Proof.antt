@@ -1,6 +1,6 @@
 -- `ledger::lines::place_of` meets its contract. Assumes nothing.
 use borrow.Author.Needs.{needs}
-use Rattle.ledger.proofs.Places.{from-a, first-places, later-places}
+use Rattle.state.proofs.Places.{from-a, first-places, later-places}
 use Rattle.ledger.proofs.lines.place_of.Statement.{statement}
 use Rattle.ledger.proofs.lines.place_of.Tie as tie
 

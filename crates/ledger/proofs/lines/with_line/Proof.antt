@@ -12,11 +12,8 @@ mul-line c = search needs
 element-set-from-line : tie.Need-element-set-from-line
 element-set-from-line c = search needs
 
-one-more-requires : tie.Need-one-more-requires
-one-more-requires c κs = search needs
-
 returns : tie.Need-returns
-returns c = rw (c .before .place-of .ensures .0, c .one-more .ensures)
+returns c = rw (c .place-of .ensures .0)
 
 pub with-line-spec : {M : Type 1} → statement M
-with-line-spec = tie.close (tie.spec place-of-requires mul-line element-set-from-line one-more-requires returns)
+with-line-spec = tie.close (tie.spec place-of-requires mul-line element-set-from-line returns)

@@ -5,7 +5,7 @@ use Prim.Native.Nat.{_-_, _≤_}
 use native.Mathlib.Omega.{arith}
 use borrow.Author.Needs.{needs}
 use lib.ListN.{length, take, drop, length-set}
-use Rattle.ledger.proofs.Writes.{copied, copied-all}
+use Rattle.state.proofs.Writes.{copied, copied-all}
 use Rattle.ledger.proofs.patterns.copy.Statement.{statement}
 use Rattle.ledger.proofs.patterns.copy.Tie as tie
 

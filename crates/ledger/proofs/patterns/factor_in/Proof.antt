@@ -1,6 +1,6 @@
 -- `ledger::patterns::factor_in` meets its contract. Assumes nothing.
 use borrow.Author.Needs.{needs}
-use Rattle.ledger.proofs.Writes.{slot-read}
+use Rattle.state.proofs.Writes.{slot-read}
 use Rattle.ledger.proofs.patterns.factor_in.Statement.{statement}
 use Rattle.ledger.proofs.patterns.factor_in.Tie as tie
 

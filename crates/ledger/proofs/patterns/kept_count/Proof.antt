@@ -5,7 +5,7 @@ use native.Mathlib.Omega.{arith}
 use borrow.Author.Needs.{needs}
 use Rattle.model.specs.Kind.{isYear}
 use Rattle.model.proofs.Ages.{ages-small}
-use Rattle.ledger.specs.Patterns.{keptCount}
+use Rattle.state.specs.Patterns.{keptCount}
 use Rattle.ledger.proofs.patterns.kept_count.Statement.{statement}
 use Rattle.ledger.proofs.patterns.kept_count.Tie as tie
 

@@ -1,6 +1,6 @@
 -- `ledger::patterns::write` meets its contract. Assumes nothing.
 use borrow.Author.Needs.{needs}
-use Rattle.ledger.proofs.Writes.{stored}
+use Rattle.state.proofs.Writes.{stored}
 use Rattle.ledger.proofs.patterns.write.Statement.{statement}
 use Rattle.ledger.proofs.patterns.write.Tie as tie
 

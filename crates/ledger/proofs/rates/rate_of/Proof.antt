@@ -1,6 +1,6 @@
 -- `ledger::rates::rate_of` meets its contract. Assumes nothing.
 use borrow.Author.Needs.{needs}
-use Rattle.ledger.proofs.RatePlaces.{first-year, year-place, place-fits, given-rate, missing-rate, no-year}
+use Rattle.state.proofs.RatePlaces.{first-year, year-place, place-fits, given-rate, missing-rate, no-year}
 use Rattle.ledger.proofs.rates.rate_of.Statement.{statement}
 use Rattle.ledger.proofs.rates.rate_of.Tie as tie
 

@@ -1,6 +1,6 @@
 -- `ledger::rates::with_rate` meets its contract. Assumes nothing.
 use borrow.Author.Needs.{needs}
-use Rattle.ledger.proofs.RatePlaces.{first-year, year-place, place-fits}
+use Rattle.state.proofs.RatePlaces.{first-year, year-place, place-fits}
 use Rattle.ledger.proofs.rates.with_rate.Statement.{statement}
 use Rattle.ledger.proofs.rates.with_rate.Tie as tie
 
@@ -19,11 +19,8 @@ mul-later c = search place-fits
 element-write-later : tie.Need-element-write-later
 element-write-later c = search year-place
 
-one-more-requires : tie.Need-one-more-requires
-one-more-requires c κs = search needs
-
 returns : tie.Need-returns
-returns c = rw (c .before .number .ensures, c .one-more .ensures)
+returns c = rw (c .number .ensures)
 
 pub with-rate-spec : {M : Type 1} → statement M
 with-rate-spec =
@@ -34,5 +31,4 @@ with-rate-spec =
     cast-later
     mul-later
     element-write-later
-    one-more-requires
     returns)

@@ -3,18 +3,19 @@ use Prim.Native.Nat.{_-_}
 use native.Mathlib.Omega.{arith}
 use borrow.Author.Needs.{needs}
 use lib.ListN.{length}
-use Rattle.ledger.proofs.Reading.{Numbers, read-start, read-on, read-end}
+use Rattle.state.specs.Patterns.{factorIn}
+use Rattle.ledger.proofs.Maps.{Mapped, map-start, map-on, map-end}
 use Rattle.ledger.proofs.read.numbers.Statement.{statement}
 use Rattle.ledger.proofs.read.numbers.Tie as tie
 
 abbrev Inv-loop : tie.InvT-loop
-Inv-loop list factors₀ k₀ factors k = Numbers list factors k
+Inv-loop list factors₀ k₀ factors k = Mapped factorIn 10 list factors k
 
 abbrev μ-loop : tie.MeasureT-loop
 μ-loop list factors₀ k₀ factors k = length list - k
 
 loop-holds : tie.Need-loop-holds Inv-loop μ-loop
-loop-holds c = search read-start
+loop-holds c = search map-start
 
 mul-factors : tie.Need-mul-factors Inv-loop μ-loop
 mul-factors c = search needs
@@ -38,10 +39,10 @@ loop-less : tie.Need-loop-less Inv-loop μ-loop
 loop-less c = omega arith
 
 loop-again : tie.Need-loop-again Inv-loop μ-loop
-loop-again c = search read-on
+loop-again c = search map-on
 
 returns : tie.Need-returns Inv-loop μ-loop
-returns c = search read-end
+returns c = search map-end
 
 pub numbers-spec : {M : Type 1} → statement M
 numbers-spec =

@@ -2,7 +2,7 @@
 use native.Mathlib.Omega.{arith}
 use borrow.Author.Needs.{needs}
 use Rattle.ledger.proofs.RowLoops.{factor-kept, factor-missing, factor-prior}
-use Rattle.ledger.proofs.RowPatterns.{kept-year}
+use Rattle.state.proofs.KeptYears.{kept-year}
 use Rattle.ledger.proofs.rows.row_factor.Statement.{statement}
 use Rattle.ledger.proofs.rows.row_factor.Tie as tie
 

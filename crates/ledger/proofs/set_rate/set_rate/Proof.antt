@@ -1,6 +1,5 @@
 -- `ledger::set_rate::set_rate` meets its contract. Assumes nothing.
 use borrow.Author.Needs.{needs}
-use Rattle.ledger.proofs.Settling.{goes-on-anyhow}
 use Rattle.ledger.proofs.RateSet.{averaged, year-refused, months-counted, months-limited, rate-on}
 use Rattle.ledger.proofs.set_rate.set_rate.Statement.{statement}
 use Rattle.ledger.proofs.set_rate.set_rate.Tie as tie

@@ -1,0 +1,4 @@
+pub mod Lines
+pub mod Patterns
+pub mod Rates
+pub mod View

@@ -1,0 +1,2 @@
+// What the book holds. The model's book that it is stands in specs/View.antt.
+pub mod book;
