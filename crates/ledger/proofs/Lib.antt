@@ -1,6 +1,4 @@
 pub mod Declared
-pub mod LineEnds
-pub mod LineRead
 pub mod Maps
 pub mod PatternAdded
 pub mod PatternAsked
@@ -9,7 +7,6 @@ pub mod RateSet
 pub mod Reading
 pub mod RowLoops
 pub mod RowPatterns
-pub mod Runs
 pub mod Settling
 pub mod Turns
 pub mod YearAsked

@@ -1,9 +1,7 @@
 pub mod AddPattern
 pub mod Answer
-pub mod Apply
 pub mod CloseYear
 pub mod Does
-pub mod Input
 pub mod Read
 pub mod Rows
 pub mod SetRate

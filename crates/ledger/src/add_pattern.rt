@@ -1,4 +1,5 @@
 // "PATT, letter, year, then paid and incurred an age"
+use crate::accept::accept;
 use crate::answer::Answer;
 use crate::answer::Outcome;
 use crate::answer::Refusal;
@@ -8,8 +9,7 @@ use crate::patterns::keep;
 use crate::patterns::kept_count;
 use crate::rates::YearRate;
 use crate::rates::rate_of;
-use crate::settle::accept;
-use crate::settle::refuse;
+use crate::refuse::refuse;
 use factor::pattern::Verdict;
 use factor::pattern::discount;
 use factor::published::published;

@@ -1,14 +1,14 @@
 // "YEAR, letter, year, then paid, unpaid, tabular for each age, prior row last"
+use crate::accept::accept;
 use crate::answer::Answer;
 use crate::answer::Outcome;
 use crate::answer::Refusal;
 use crate::lines::line_of;
 use crate::lines::with_line;
 use crate::patterns::kept_count;
+use crate::refuse::refuse;
 use crate::rows::have_patterns;
 use crate::rows::row_factors;
-use crate::settle::accept;
-use crate::settle::refuse;
 use kinds::closing::Closing;
 use kinds::letter::is_covered;
 use kinds::opening::Opening;

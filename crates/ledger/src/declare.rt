@@ -1,11 +1,11 @@
 // "LINE, letter, opening"
+use crate::accept::accept;
 use crate::answer::Answer;
 use crate::answer::Outcome;
 use crate::answer::Refusal;
 use crate::lines::line_of;
 use crate::lines::with_line;
-use crate::settle::accept;
-use crate::settle::refuse;
+use crate::refuse::refuse;
 use kinds::letter::is_covered;
 use kinds::opening::is_opening;
 use state::book::Book;

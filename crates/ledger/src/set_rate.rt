@@ -1,12 +1,12 @@
 // "RATE, year, sixty rates"
+use crate::accept::accept;
 use crate::answer::Answer;
 use crate::answer::Outcome;
 use crate::answer::Refusal;
 use crate::rates::YearRate;
 use crate::rates::rate_of;
 use crate::rates::with_rate;
-use crate::settle::accept;
-use crate::settle::refuse;
+use crate::refuse::refuse;
 use factor::rate::Mean;
 use factor::rate::mean_rate;
 use kinds::rate::Rate;

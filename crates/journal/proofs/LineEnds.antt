@@ -9,7 +9,7 @@ use borrow.Author.Tests.{ne-eqb}
 use lib.ListN.{length, take, drop, getD, length-take, length-drop, drop-of-length-le}
 use lib.Seq.{take-suc, drop-cons, getD-drop}
 use Rattle.model.specs.Input.{push, linesOf}
-use Rattle.ledger.specs.Input.{LineEnd}
+use Rattle.journal.specs.Input.{LineEnd}
 
 -- the parts of a rest, with bytes before it of which none is 10
 abbrev ahead : List ℕ → List (List ℕ) → List (List ℕ)

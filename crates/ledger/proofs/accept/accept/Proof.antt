@@ -1,7 +1,7 @@
--- `ledger::settle::accept` meets its contract. Assumes nothing.
+-- `ledger::accept::accept` meets its contract. Assumes nothing.
 use borrow.Author.Needs.{needs}
-use Rattle.ledger.proofs.settle.accept.Statement.{statement}
-use Rattle.ledger.proofs.settle.accept.Tie as tie
+use Rattle.ledger.proofs.accept.accept.Statement.{statement}
+use Rattle.ledger.proofs.accept.accept.Tie as tie
 
 one-more-requires : tie.Need-one-more-requires
 one-more-requires c κs = search needs

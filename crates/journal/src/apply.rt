@@ -1,12 +1,12 @@
 // One record, by the bytes of its line.
-use crate::add_pattern::add_pattern;
-use crate::answer::Outcome;
-use crate::answer::Refusal;
-use crate::close_year::close_year;
-use crate::declare::declare;
-use crate::set_rate::set_rate;
-use crate::settle::refuse;
 use kinds::letter::ages;
+use ledger::add_pattern::add_pattern;
+use ledger::answer::Outcome;
+use ledger::answer::Refusal;
+use ledger::close_year::close_year;
+use ledger::declare::declare;
+use ledger::refuse::refuse;
+use ledger::set_rate::set_rate;
 use record::read::read;
 use record::request::Request;
 use record::request::Verdict;
@@ -14,8 +14,8 @@ use state::book::Book;
 use state::book::Patterns;
 ghost use Rattle.model.specs.Step.{asBytes, asNumbers};
 ghost use Rattle.state.specs.View.{view};
 ghost use Rattle.ledger.specs.Does.{Does};
-ghost use Rattle.ledger.specs.Apply.{patternCall, yearCall};
+ghost use Rattle.journal.specs.Apply.{patternCall, yearCall};
 
 // "Questions put to a record, in this order": 1 to 6 by the reader, which answers a call with numbers, and then those of the call.
 pub fn apply(book: Book, patterns: &mut Patterns, line: &[u8]) -> Outcome

@@ -1,10 +1,10 @@
--- `ledger::apply_all::apply_all` meets its contract. Assumes nothing.
+-- `journal::apply_all::apply_all` meets its contract. Assumes nothing.
 use borrow.Author.Needs.{needs}
 use Prim.Native.Nat.{_-_}
 use lib.ListN.{length}
-use Rattle.ledger.proofs.Runs.{Running, begin, on, runs}
-use Rattle.ledger.proofs.apply_all.apply_all.Statement.{statement}
-use Rattle.ledger.proofs.apply_all.apply_all.Tie as tie
+use Rattle.journal.proofs.Runs.{Running, begin, on, runs}
+use Rattle.journal.proofs.apply_all.apply_all.Statement.{statement}
+use Rattle.journal.proofs.apply_all.apply_all.Tie as tie
 
 abbrev Inv-loop : tie.InvT-loop
 Inv-loop patterns₀ input book₀ at₀ patterns book at = Running input patterns₀ book patterns at

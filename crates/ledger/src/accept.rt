@@ -1,34 +1,19 @@
-// A record refused or accepted: what it counts.
+// An accepted record: what it counts.
 use crate::answer::Answer;
 use crate::answer::Outcome;
-use crate::answer::Refusal;
 use state::book::Book;
 ghost use mathlib.Core.Path.{_≡_};
 ghost use Rattle.model.specs.Step.{oneMore};
-ghost use Rattle.ledger.specs.Answer.{refusedOf, acceptedOf};
+ghost use Rattle.ledger.specs.Answer.{acceptedOf};
 
 // "Either count stops at 2^64 - 1."
-fn one_more(n: u64) -> u64
+pub fn one_more(n: u64) -> u64
     ensures { λ r. ⌜ r ≡ oneMore n ⌝ }
 {
     if n < 18446744073709551615 {
         return n + 1;
     }
     n
-}
-
-// "Lines, rates, patterns, closings and the accepted count are then as before, and the refused count is one higher."
-pub fn refuse(book: Book, refusal: Refusal) -> Outcome
-    ensures { λ r. ⌜ r ≡ refusedOf book refusal ⌝ }
-{
-    let mut later = book;
-    let count = one_more(book.refused);
-    later.refused = count;
-    Outcome {
-        book: later,
-        answer: Answer::No(refusal),
-        published: [0; 11],
-    }
 }
 
 // "Without a "no" the record is accepted and the accepted count is one higher."

@@ -15,13 +15,13 @@ use Rattle.record.specs.declared.request.Verdict.the-variants as verdict
 use Rattle.record.specs.Request.{says, readOf}
 use Rattle.record.proofs.Answers.{said}
 use Rattle.state.specs.declared.book.Book.{Book}
 use Rattle.ledger.specs.declared.answer.Refusal.the-variants as refusal
 use Rattle.ledger.specs.declared.answer.Outcome.{Outcome}
 use Rattle.state.specs.View.{view}
 use Rattle.ledger.specs.Answer.{refusedOf}
 use Rattle.ledger.specs.Does.{Does, DoesAnyhow}
-use Rattle.ledger.specs.Apply.{patternCall, yearCall}
-use Rattle.ledger.proofs.Settling.{line-refused, line-asks}
+use Rattle.journal.specs.Apply.{patternCall, yearCall}
+use Rattle.journal.proofs.LineQuestions.{line-refused, line-asks}
 
 module _ (line : List ℕ) (request : Request) (reads : says request ≡ readOf line) (book : Book) (r : Outcome) (slots : List ℕ) where
   pub long : request .verdict ≡ verdict.Long → r ≡ refusedOf book refusal.Long → Does (view book slots) (asBytes line) slots r slots

@@ -1,11 +1,11 @@
--- `ledger::apply::apply_year` meets its contract. Assumes nothing.
+-- `journal::apply::apply_year` meets its contract. Assumes nothing.
 use native.Mathlib.Omega.{arith}
 use borrow.Author.Needs.{needs}
 use Rattle.model.proofs.Ages.{ages-small}
 use Rattle.record.proofs.Judged.{rows-in, rows-taken}
-use Rattle.ledger.proofs.LineRead.{year-taken}
-use Rattle.ledger.proofs.apply.apply_year.Statement.{statement}
-use Rattle.ledger.proofs.apply.apply_year.Tie as tie
+use Rattle.journal.proofs.LineRead.{year-taken}
+use Rattle.journal.proofs.apply.apply_year.Statement.{statement}
+use Rattle.journal.proofs.apply.apply_year.Tie as tie
 
 ages-requires : tie.Need-ages-requires
 ages-requires c κs = search needs

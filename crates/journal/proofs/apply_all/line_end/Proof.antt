@@ -1,10 +1,10 @@
--- `ledger::apply_all::line_end` meets its contract. Assumes nothing.
+-- `journal::apply_all::line_end` meets its contract. Assumes nothing.
 use Prim.Native.Nat.{_-_}
 use native.Mathlib.Omega.{arith}
 use lib.ListN.{length}
-use Rattle.ledger.proofs.LineEnds.{Within, begin, on, at-byte, at-end}
-use Rattle.ledger.proofs.apply_all.line_end.Statement.{statement}
-use Rattle.ledger.proofs.apply_all.line_end.Tie as tie
+use Rattle.journal.proofs.LineEnds.{Within, begin, on, at-byte, at-end}
+use Rattle.journal.proofs.apply_all.line_end.Statement.{statement}
+use Rattle.journal.proofs.apply_all.line_end.Tie as tie
 
 abbrev Inv-loop : tie.InvT-loop
 Inv-loop input start at₀ at = Within input start at

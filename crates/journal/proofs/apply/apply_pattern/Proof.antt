@@ -1,9 +1,9 @@
--- `ledger::apply::apply_pattern` meets its contract. Assumes nothing.
+-- `journal::apply::apply_pattern` meets its contract. Assumes nothing.
 use borrow.Author.Needs.{needs}
 use Rattle.record.proofs.Judged.{ages-in, ages-taken}
-use Rattle.ledger.proofs.LineRead.{pattern-taken}
-use Rattle.ledger.proofs.apply.apply_pattern.Statement.{statement}
-use Rattle.ledger.proofs.apply.apply_pattern.Tie as tie
+use Rattle.journal.proofs.LineRead.{pattern-taken}
+use Rattle.journal.proofs.apply.apply_pattern.Statement.{statement}
+use Rattle.journal.proofs.apply.apply_pattern.Tie as tie
 
 ages-requires : tie.Need-ages-requires
 ages-requires c κs = search needs

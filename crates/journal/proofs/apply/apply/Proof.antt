@@ -1,8 +1,8 @@
--- `ledger::apply::apply` meets its contract. Assumes nothing.
+-- `journal::apply::apply` meets its contract. Assumes nothing.
 use borrow.Author.Needs.{needs}
-use Rattle.ledger.proofs.LineRead.{long, wordless, letterless, miscounted, ill-written, past-limits, declares, sets-rate, adds-pattern, closes-year}
-use Rattle.ledger.proofs.apply.apply.Statement.{statement}
-use Rattle.ledger.proofs.apply.apply.Tie as tie
+use Rattle.journal.proofs.LineRead.{long, wordless, letterless, miscounted, ill-written, past-limits, declares, sets-rate, adds-pattern, closes-year}
+use Rattle.journal.proofs.apply.apply.Statement.{statement}
+use Rattle.journal.proofs.apply.apply.Tie as tie
 
 read-requires : tie.Need-read-requires
 read-requires c κs = search needs

@@ -1,7 +1,7 @@
--- `ledger::settle::refuse` meets its contract. Assumes nothing.
+-- `ledger::refuse::refuse` meets its contract. Assumes nothing.
 use borrow.Author.Needs.{needs}
-use Rattle.ledger.proofs.settle.refuse.Statement.{statement}
-use Rattle.ledger.proofs.settle.refuse.Tie as tie
+use Rattle.ledger.proofs.refuse.refuse.Statement.{statement}
+use Rattle.ledger.proofs.refuse.refuse.Tie as tie
 
 one-more-requires : tie.Need-one-more-requires
 one-more-requires c κs = search needs

@@ -5,8 +5,8 @@ use state::book::Patterns;
 use state::book::empty;
 ghost use Prim.Native.Nat.{_<_};
 ghost use lib.ListN.{length};
-ghost use Rattle.ledger.specs.Apply.{Runs};
-ghost use Rattle.ledger.specs.Input.{LineEnd};
+ghost use Rattle.journal.specs.Apply.{Runs};
+ghost use Rattle.journal.specs.Input.{LineEnd};
 
 // "Each record gets the book that the one before left, and nothing else writes to the book meanwhile.", from the empty book: with demand 3 of the whole list.
 pub fn apply_all(patterns: &mut Patterns, input: &[u8]) -> Book

@@ -13,11 +13,11 @@ use Rattle.model.specs.Step.{asBytes}
 use Rattle.model.specs.Run.{after, recordsOf}
 use Rattle.model.proofs.Demand.{demand-of-input}
 use Rattle.state.specs.declared.book.Book.{Book}
 use Rattle.ledger.specs.declared.answer.Outcome.{Outcome}
 use Rattle.state.specs.View.{view, IsEmpty}
 use Rattle.ledger.specs.Does.{Does}
-use Rattle.ledger.specs.Apply.{slotsAfterAll, Runs}
-use Rattle.ledger.specs.Input.{LineEnd}
+use Rattle.journal.specs.Apply.{slotsAfterAll, Runs}
+use Rattle.journal.specs.Input.{LineEnd}
 
 -- the records from byte `at` on
 abbrev rest : List ℕ → ℕ → List model-step.Request

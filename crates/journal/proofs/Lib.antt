@@ -1,0 +1,4 @@
+pub mod LineEnds
+pub mod LineQuestions
+pub mod LineRead
+pub mod Runs
