@@ -52,6 +52,5 @@ module _ (line : List ℕ) (slots : List ℕ) (r : Outcome) where
 
   pub line-asks : (book : model.Book) (call : Call) (later : List ℕ) → readOf line ≡ asks call → Does book (asNumbers call) slots r later → Does book (asBytes line) slots r later
   line-asks book call later e h =
-      let s = asked-sound line call e in
       same-does book (asNumbers call) (asBytes line) slots r later
-      (goes-on book call (record { letter = s .letter; lengths = s .lengths; limits = s .limits }) ∙ sym (line-goes-on book call e)) (asked-is line call e .1) h
+      (goes-on book call (asked-sound line call e) ∙ sym (line-goes-on book call e)) (asked-is line call e .1) h

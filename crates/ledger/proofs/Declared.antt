@@ -12,7 +12,7 @@ use Rattle.model.specs.Basics.{if_then_else_}
 use Rattle.model.specs.Kind.{isOpening}
 use Rattle.model.specs.Letter.{covered}
 use Rattle.model.specs.Call.{declare}
-use Rattle.model.specs.Question.{bookQuestions, firstNo}
+use Rattle.model.specs.Question.{Sound, bookQuestions, firstNo}
 use Rattle.model.specs.Step.{asNumbers, declaredLine, accept}
 use Rattle.state.specs.declared.book.Book.{Book}
 use Rattle.state.specs.declared.book.Line.{Line}
@@ -23,7 +23,7 @@ use Rattle.state.specs.Lines.{lineAt, newLine, withLineOf}
 use Rattle.state.specs.Patterns.{keptCount, keptBack}
 use Rattle.state.specs.View.{lineOf, view}
 use Rattle.ledger.specs.Answer.{nothing, refusedOf, acceptedOf}
-use Rattle.ledger.specs.Does.{slotsAfter, Sound, SettledAnyhow, DoesAnyhow}
+use Rattle.ledger.specs.Does.{slotsAfter, SettledAnyhow, DoesAnyhow}
 use Rattle.ledger.proofs.Settling.{refused, limits-refused}
 use Rattle.state.proofs.Views.{lines-put, declared-is}
 

@@ -12,7 +12,7 @@ use Rattle.model.specs.Letter.{covered}
 use Rattle.model.specs.Pattern.{agesOf}
 use Rattle.model.specs.Tail.{schedule}
 use Rattle.model.specs.Call.{Call, addPattern}
-use Rattle.model.specs.Question.{hasLengths, isWithinLimits, hasIncurred, climbs, bookQuestions, firstNo}
+use Rattle.model.specs.Question.{Sound, hasLengths, isWithinLimits, hasIncurred, climbs, bookQuestions, firstNo}
 use Rattle.model.specs.Step.{asNumbers}
 use Rattle.kinds.specs.declared.rate.Rate.{Rate}
 use Rattle.kinds.specs.Rate.{rateNumber}
@@ -31,7 +31,7 @@ use Rattle.ledger.specs.YearRate.{yearRate}
 use Rattle.state.specs.Lines.{lineAt}
 use Rattle.state.specs.View.{view}
 use Rattle.ledger.specs.Answer.{refusedOf}
-use Rattle.ledger.specs.Does.{Sound, Settled, Does}
+use Rattle.ledger.specs.Does.{Settled, Does}
 use Rattle.ledger.specs.AddPattern.{followsLast, Turned}
 use Rattle.ledger.proofs.Settling.{refused, goes-on-does}
 use Rattle.state.proofs.Views.{line-is, declared-is}

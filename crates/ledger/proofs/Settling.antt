@@ -7,7 +7,7 @@ use mathlib.Core.Option.{Option, some}
 use Prim.Native.Nat.{ℕ}
 use Rattle.model.specs.Book as model
 use Rattle.model.specs.Call.{Call}
-use Rattle.model.specs.Question.{hasLetter, hasLengths, isWithinLimits, callQuestions, bookQuestions, firstNo}
+use Rattle.model.specs.Question.{Sound, hasLetter, hasLengths, isWithinLimits, callQuestions, bookQuestions, firstNo}
 use Rattle.model.specs.Step.{Request, asNumbers, asked, questions, refuse, step}
 use Rattle.state.specs.declared.book.Book.{Book}
 use Rattle.ledger.specs.declared.answer.Refusal.{Refusal}
@@ -15,7 +15,7 @@ use Rattle.ledger.specs.declared.answer.Refusal.the-variants.{Letter, Co
 use Rattle.ledger.specs.declared.answer.Outcome.{Outcome}
 use Rattle.state.specs.View.{view}
 use Rattle.ledger.specs.Answer.{numberOf, refusedOf}
-use Rattle.ledger.specs.Does.{slotsAfter, Sound, Settles, Settled, Does, SettledAnyhow, DoesAnyhow}
+use Rattle.ledger.specs.Does.{slotsAfter, Settles, Settled, Does, SettledAnyhow, DoesAnyhow}
 
 -- a request by its first question answered no
 pub does : (book : model.Book) (request : Request) (slots : List ℕ) (r : Outcome) (later : List ℕ) (first : Option ℕ) → firstNo (questions book request) ≡ first → Settles first book (asked request) slots r later → Does book request slots r later

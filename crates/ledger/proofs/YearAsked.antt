@@ -15,7 +15,7 @@ use Rattle.model.specs.Kind.{isYear}
 use Rattle.model.specs.Letter.{covered, ages}
 use Rattle.model.specs.Row.{rowsOf}
 use Rattle.model.specs.Call.{Call, closeYear}
-use Rattle.model.specs.Question.{hasLengths, isWithinLimits, haveKept, bookQuestions, firstNo}
+use Rattle.model.specs.Question.{Sound, hasLengths, isWithinLimits, haveKept, bookQuestions, firstNo}
 use Rattle.model.specs.Step.{asNumbers}
 use Rattle.model.proofs.Lists.{and-left, and-right, true≢false}
 use Rattle.reserve.specs.YearEnd.{hasLimits}
@@ -29,7 +29,7 @@ use Rattle.state.specs.Patterns.{keptCount}
 use Rattle.ledger.specs.Rows.{Paired, havePatterns}
 use Rattle.state.specs.View.{lineOf, view}
 use Rattle.ledger.specs.Answer.{refusedOf}
-use Rattle.ledger.specs.Does.{Sound, Settled, Does, DoesAnyhow}
+use Rattle.ledger.specs.Does.{Settled, Does, DoesAnyhow}
 use Rattle.ledger.specs.CloseYear.{isDue, Turned, Passed}
 use Rattle.ledger.proofs.Settling.{refused, limits-refused, goes-on-does}
 use Rattle.state.proofs.Views.{line-is, declared-is}

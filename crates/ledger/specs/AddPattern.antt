@@ -10,6 +10,7 @@ use Rattle.model.specs.Basics.{if_then_else_}
 use Rattle.model.specs.Kind.{isYear}
 use Rattle.model.specs.Published.{published}
 use Rattle.model.specs.Call.{addPattern}
+use Rattle.model.specs.Question.{Sound}
 use Rattle.state.specs.declared.book.Book.{Book}
 use Rattle.state.specs.declared.book.Line.{Line}
 use Rattle.ledger.specs.declared.answer.Outcome.{Outcome}
@@ -18,7 +19,6 @@ use Rattle.state.specs.Rates.{ratesOf}
 use Rattle.state.specs.Lines.{lineAt, withLineOf}
 use Rattle.state.specs.Patterns.{keptCount, withPatternOf}
 use Rattle.ledger.specs.Answer.{acceptedOf}
-use Rattle.ledger.specs.Does.{Sound}
 
 -- question 10
 unfoldable pub followsLast : ℕ → Line → ℕ → Bool

@@ -10,12 +10,12 @@ use Rattle.model.specs.Basics.{if_then_else_}
 use Rattle.model.specs.Kind.{isYear}
 use Rattle.model.specs.Letter.{ages}
 use Rattle.model.specs.Call.{closeYear}
+use Rattle.model.specs.Question.{Sound}
 use Rattle.state.specs.declared.book.Book.{Book}
 use Rattle.state.specs.declared.book.Line.{Line}
 use Rattle.state.specs.Lines.{lineAt}
 use Rattle.state.specs.Patterns.{keptCount}
 use Rattle.ledger.specs.Rows.{havePatterns}
-use Rattle.ledger.specs.Does.{Sound}
 
 -- question 10
 unfoldable pub isDue : ℕ → Line → ℕ → Bool

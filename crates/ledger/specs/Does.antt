@@ -1,7 +1,6 @@
 -- What every public call promises: the model's outcome, and the whole of the lent list.
 -- Assumes nothing: these are definitions.
 use mathlib.Core.List.{List}
-use mathlib.Core.Bool.{true}
 use mathlib.Core.Path.{_≡_}
 use mathlib.Core.Option.{Option, none, some}
 use Prim.Native.Nat.{ℕ}
@@ -10,7 +9,7 @@ use Rattle.model.specs.Pattern.{agesOf}
 use Rattle.model.specs.Tail.{schedule}
 use Rattle.model.specs.Book.{Book}
 use Rattle.model.specs.Call.{Call, declare, setRate, addPattern, closeYear}
-use Rattle.model.specs.Question.{hasLetter, hasLengths, isWithinLimits, bookQuestions, firstNo}
+use Rattle.model.specs.Question.{bookQuestions, firstNo}
 use Rattle.model.specs.Step.{Request, asked, questions, keptPattern, settle, step}
 use Rattle.state.specs.declared.book.Book as code
 use Rattle.ledger.specs.declared.answer.Outcome.{Outcome}
@@ -26,12 +25,6 @@ slotsAfter none book (setRate year months) slots = slots
 slotsAfter none book (addPattern letter year paid incurred) slots =
     written slots (slotOf letter year) (numbersOf letter (keptPattern letter year (orDefault (book .rates year) 0) (schedule letter (agesOf paid incurred))))
 slotsAfter none book (closeYear letter year paid unpaid tabular) slots = slots
-
--- a call that questions 3, 4 and 6 let through
-pub record Sound (call : Call) : Type 0 where
-  pub letter : hasLetter call ≡ true
-  pub lengths : hasLengths call ≡ true
-  pub limits : isWithinLimits call ≡ true
 
 -- a call of which `first` is the first question answered no, if any
 pub record Settles (first : Option ℕ) (book : Book) (call : Call) (slots : List ℕ) (r : Outcome) (later : List ℕ) : Type 0 where

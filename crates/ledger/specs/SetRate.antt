@@ -4,8 +4,8 @@ use mathlib.Core.List.{List}
 use mathlib.Core.Path.{_≡_}
 use Prim.Native.Nat.{ℕ}
 use Rattle.model.specs.Call.{setRate}
+use Rattle.model.specs.Question.{Sound}
 use Rattle.model.specs.Rate.{rateOf}
-use Rattle.ledger.specs.Does.{Sound}
 
 pub record Averaged (year rate : ℕ) (months : List ℕ) : Type 0 where
   pub sound : Sound (setRate year months)

@@ -28,11 +28,11 @@ ghost use lib.ListN.{length};
 ghost use Rattle.model.specs.Letter.{covered};
 ghost use Rattle.model.specs.Call.{addPattern};
 ghost use Rattle.model.specs.Published.{published};
-ghost use Rattle.model.specs.Question.{hasLengths, isWithinLimits};
+ghost use Rattle.model.specs.Question.{Sound, hasLengths, isWithinLimits};
 ghost use Rattle.model.specs.Step.{asNumbers};
 ghost use Rattle.kinds.specs.Rate.{rateNumber};
 ghost use Rattle.state.specs.View.{view};
-ghost use Rattle.ledger.specs.Does.{Does, Sound, Settled};
+ghost use Rattle.ledger.specs.Does.{Does, Settled};
 ghost use Rattle.state.specs.Patterns.{slotOf, withPatternOf, written};
 ghost use Rattle.ledger.specs.AddPattern.{followsLast, patternOutcome, Turned};
 

@@ -22,9 +22,10 @@ use state::book::Patterns;
 ghost use mathlib.Core.Bool.{true};
 ghost use mathlib.Core.Path.{_≡_};
 ghost use Rattle.model.specs.Call.{closeYear};
+ghost use Rattle.model.specs.Question.{Sound};
 ghost use Rattle.model.specs.Step.{asNumbers};
 ghost use Rattle.state.specs.View.{view};
-ghost use Rattle.ledger.specs.Does.{Does, Sound, Settled};
+ghost use Rattle.ledger.specs.Does.{Does, Settled};
 ghost use Rattle.state.specs.Lines.{withClosingOf};
 ghost use Rattle.ledger.specs.CloseYear.{isDue, openingOf, Turned, Passed};
 

@@ -11,8 +11,9 @@ use kinds::opening::is_opening;
 use state::book::Book;
 use state::book::Line;
 ghost use Rattle.model.specs.Call.{declare};
+ghost use Rattle.model.specs.Question.{Sound};
 ghost use Rattle.model.specs.Step.{asNumbers};
-ghost use Rattle.ledger.specs.Does.{Sound, SettledAnyhow, DoesAnyhow};
+ghost use Rattle.ledger.specs.Does.{SettledAnyhow, DoesAnyhow};
 
 // Questions 3 and 6, and on.
 pub fn declare(book: Book, letter: u8, opening: u64) -> Outcome

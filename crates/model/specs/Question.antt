@@ -3,6 +3,7 @@
 use mathlib.Core.Bool.{Bool, true, false, not, _&&_, _||_}
 use mathlib.Core.List.{List, [], _∷_, map}
 use mathlib.Core.Option.{Option, none, some}
+use mathlib.Core.Path.{_≡_}
 use Prim.Native.Nat.{ℕ, suc, _-_}
 use lib.Dec.{eqb, leb, ltb}
 use lib.ListN.{length, take, drop}
@@ -155,6 +156,12 @@ lineQuestions line =
 -- "Calls with numbers start at 3 (a letter), 4 (a list's length) and 6."
 unfoldable pub callQuestions : Call → List (ℕ × Bool)
 callQuestions call = (3, hasLetter call) ∷ (4, hasLengths call) ∷ (6, isWithinLimits call) ∷ []
+
+-- a call that questions 3, 4 and 6 let through
+pub record Sound (call : Call) : Type 0 where
+  pub letter : hasLetter call ≡ true
+  pub lengths : hasLengths call ≡ true
+  pub limits : isWithinLimits call ≡ true
 
 -- questions 7 to 13
 unfoldable pub bookQuestions : Book → Call → List (ℕ × Bool)

@@ -1,6 +1,5 @@
 -- For callers: what an answer of the reader says of the six questions.
 -- Assumes nothing.
-use mathlib.Core.Bool.{true}
 use mathlib.Core.Path.{_≡_, refl, sym, ap, _∙_}
 use mathlib.Core.List.{List}
 use mathlib.Core.Option.{Option, none, some}
@@ -10,7 +9,7 @@ use Rattle.model.specs.Call.{Call}
 use Rattle.model.specs.Field.{fields, field}
 use Rattle.model.specs.Record.{wordOf}
 use Rattle.model.specs.Step.{callOf}
-use Rattle.model.specs.Question.{hasLetter, hasLengths, isWithinLimits, lineQuestions, firstNo}
+use Rattle.model.specs.Question.{Sound, lineQuestions, firstNo}
 use Rattle.model.proofs.Lists.{all-yes}
 use Rattle.model.proofs.Lengths.{lengths-right}
 use Rattle.record.specs.Request.{refusedAt, asks, answered, readOf, saying, says}
@@ -40,11 +39,6 @@ unfolding readOf
 asked-is line call e = answered-yes (firstNo (lineQuestions line)) (callOf line) call e
 
 -- what is asked has a covered letter, lists of the right lengths, and numbers within their limits
-pub record Sound (call : Call) : Type 0 where
-  pub letter : hasLetter call ≡ true
-  pub lengths : hasLengths call ≡ true
-  pub limits : isWithinLimits call ≡ true
-
 pub asked-sound : (line : List ℕ) (call : Call) → readOf line ≡ asks call → Sound call
 unfolding lineQuestions
 asked-sound line call e =
