@@ -8,6 +8,7 @@ use common::{answer, book_after, rate};
 use reference::book::{Book, KeptPattern};
 use reference::factor::published;
 use reference::kinds::Letter;
+use reference::stored_input::exhibits;
 
 /// An age, the factor that the exhibit prints and the one of document 01's rules.
 type Age = (usize, u64, u64);
@@ -54,19 +55,15 @@ fn run_exhibit(letter: char, year: u64, exhibit_rate: u64, rows: &str) -> (Book,
 }
 
 fn exhibit_9() -> (Book, String) {
-    run_exhibit('J', 2015, 168, "902657 1000000 997478 1000000")
+    run_exhibit('J', 2015, 168, exhibits::EXHIBIT_9)
 }
 
 fn exhibit_10() -> (Book, String) {
-    let rows = "200000 571500 330000 687500 360000 610000 380000 550500 370000 480500 \
-                350000 421500 340000 386500 320000 348000 300000 316000 270000 275500";
-    run_exhibit('B', 2011, 700, rows)
+    run_exhibit('B', 2011, 700, exhibits::EXHIBIT_10)
 }
 
 fn exhibit_11() -> (Book, String) {
-    let rows = "15000 180000 35000 140000 50000 125000 60000 115000 65000 103000 \
-                70000 96000 65000 80000 60000 70000 55000 62000 50000 55500";
-    run_exhibit('H', 2011, 700, rows)
+    run_exhibit('H', 2011, 700, exhibits::EXHIBIT_11)
 }
 
 fn pattern(book: &Book, letter: &[u8]) -> KeptPattern {

@@ -3,7 +3,7 @@
 
 mod common;
 
-use common::{answer, book_after, flat_pattern, rate, repeated};
+use common::{answer, book_after, flat_pattern, payments, rate, repeated, worked_back};
 use reference::factor::{half_year_factor, kept_factors, published, Factors};
 use reference::kinds::LineKind;
 use reference::pattern::Pattern;
@@ -17,26 +17,6 @@ const RATIOS: [u64; 10] = [
 
 fn pattern() -> Pattern {
     Pattern::new(LineKind::TenYear, &RATIOS)
-}
-
-/// The kept factors for any list of payments, which is how misread lists are
-/// worked back.
-fn worked_back(payments: &[u64], half_year: u64, rate: u64) -> Vec<u64> {
-    let mut factors = vec![half_year];
-    let mut unpaid = 0;
-    for payment in payments[1..].iter().rev() {
-        let next = u128::from(factors[0]) * 10_000 / u128::from(10_000 + rate);
-        let later = u128::from(unpaid);
-        unpaid += payment;
-        let sum = u128::from(*payment) * u128::from(half_year) + later * next;
-        let factor = sum.checked_div(u128::from(unpaid));
-        factors.insert(0, factor.map_or(half_year, |factor| factor as u64));
-    }
-    factors
-}
-
-fn payments(pattern: &Pattern) -> Vec<u64> {
-    (1..=16).map(|age| pattern.payment(age)).collect()
 }
 
 #[test]

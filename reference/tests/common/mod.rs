@@ -1,32 +1,13 @@
 //! Helps of the tests: records are written with spaces for tabs.
-#![allow(dead_code)]
+#![allow(dead_code, unused_imports)]
 
 use reference::answer::Answer;
 use reference::book::Book;
-use reference::pattern::{cumulative_ratio, CumulativeRow};
+use reference::input_text::ended_records;
+pub use reference::input_text::{flat_pattern, line, rate, repeated};
+use reference::pattern::{cumulative_ratio, CumulativeRow, Pattern};
 use reference::reserve::Row;
 use reference::run::run;
-
-/// The bytes of a line written with spaces for tabs.
-pub fn line(text: &str) -> Vec<u8> {
-    text.replace(' ', "\t").into_bytes()
-}
-
-/// One value so many times, parted by spaces.
-pub fn repeated(value: &str, times: usize) -> String {
-    vec![value; times].join(" ")
-}
-
-/// A RATE whose sixty rates are equal.
-pub fn rate(year: u64, rate: u64) -> String {
-    format!("RATE {year} {}", repeated(&rate.to_string(), 60))
-}
-
-/// A PATT whose ages all have the same paid and incurred.
-pub fn flat_pattern(letter: char, year: u64, paid_and_incurred: &str) -> String {
-    let ages = if "IJKLST".contains(letter) { 2 } else { 10 };
-    format!("PATT {letter} {year} {}", repeated(paid_and_incurred, ages))
-}
 
 /// The book after some records, all of which are accepted.
 pub fn book_after(records: &[&str]) -> Book {
@@ -58,12 +39,7 @@ pub fn output(input: &[u8]) -> Vec<String> {
 
 /// The output lines for some records, each ended with byte 10.
 pub fn output_of(records: &[&str]) -> Vec<String> {
-    let mut input = Vec::new();
-    for record in records {
-        input.extend(line(record));
-        input.push(b'\n');
-    }
-    output(&input)
+    output(&ended_records(records))
 }
 
 /// The cumulative ratio of an age.
@@ -79,4 +55,26 @@ pub fn discounted(unpaid: u64, tabular_discount: u64, published_factor: u64) -> 
         tabular_discount,
     };
     row.discounted(published_factor)
+}
+
+/// The kept factors for any list of payments, which is how misread lists are
+/// worked back.
+pub fn worked_back(payments: &[u64], half_year: u64, rate: u64) -> Vec<u64> {
+    let mut factors = vec![half_year];
+    let mut unpaid = 0;
+    for payment in payments[1..].iter().rev() {
+        let next = u128::from(factors[0]) * 10_000 / u128::from(10_000 + rate);
+        let later = u128::from(unpaid);
+        unpaid += payment;
+        let sum = u128::from(*payment) * u128::from(half_year) + later * next;
+        let factor = sum.checked_div(u128::from(unpaid));
+        factors.insert(0, factor.map_or(half_year, |factor| factor as u64));
+    }
+    factors
+}
+
+pub fn payments(pattern: &Pattern) -> Vec<u64> {
+    (1..=pattern.last_age())
+        .map(|age| pattern.payment(age))
+        .collect()
 }

@@ -1,0 +1,93 @@
+//! How numbers are written, at every place of every kind of record. All are
+//! refused.
+
+use super::{edge, Edge};
+use crate::input_text::repeated;
+
+/// Not well written, wherever they stand.
+const BADLY_WRITTEN: [&str; 16] = [
+    "", "-", "-0", "00", "01", "007", "-01", "+0", "+5", "--5", "5-", "1.0", "1e3", "1,000", "0x1",
+    "5\r",
+];
+
+/// Past every limit, though some would be within if they were cut to 64 or 128
+/// bits.
+const TOO_LARGE: [&str; 9] = [
+    "100000000001",
+    "1000000000000",
+    "9223372036854775808",
+    "18446744073709551615",
+    "18446744073709551616",
+    "18446744073709553603",
+    "340282366920938463463374607431768211456",
+    "340282366920938463463374607431768213443",
+    "115792089237316195423570985008687907853269984665640564039457584007913129639936",
+];
+
+pub fn edges() -> Vec<Edge> {
+    let mut edges = Vec::new();
+    for (record, place, minus_allowed) in places() {
+        for number in BADLY_WRITTEN {
+            edges.push(edge(&with(&record, place, number), "NO 5"));
+        }
+        for number in TOO_LARGE {
+            edges.push(edge(&with(&record, place, number), "NO 6"));
+        }
+        for number in ["9".repeat(500), format!("1{}", "0".repeat(499))] {
+            edges.push(edge(&with(&record, place, &number), "NO 6"));
+            let leading_zero = with(&record, place, &format!("0{number}"));
+            edges.push(edge(&leading_zero, "NO 5"));
+        }
+        edges.extend(with_minus(&record, place, minus_allowed));
+    }
+    edges
+}
+
+/// A record, the place of a number in it, and whether a minus sign may stand
+/// there.
+type Place = (String, usize, bool);
+
+fn places() -> Vec<Place> {
+    let rates = format!("RATE 2015 {}", repeated("5", 60));
+    let mut places: Vec<Place> = vec![("LINE T 5".to_string(), 2, false)];
+    for place in [1, 2, 61] {
+        places.push((rates.clone(), place, false));
+    }
+    for place in 2..7 {
+        places.push(("PATT J 2015 50 100 90 100".to_string(), place, false));
+    }
+    for place in 2..12 {
+        let record = format!("YEAR J 2015 {}", repeated("5", 9));
+        places.push((record, place, place % 3 == 0));
+    }
+    for place in [3, 22] {
+        let record = format!("PATT A 2015 {}", repeated("5 5", 10));
+        places.push((record, place, false));
+    }
+    for place in [3, 4, 33, 35] {
+        let record = format!("YEAR A 2015 {}", repeated("5", 33));
+        places.push((record, place, place % 3 == 0));
+    }
+    places
+}
+
+/// "a minus sign is allowed only before a nonzero paid in YEAR"
+fn with_minus(record: &str, place: usize, allowed: bool) -> Vec<Edge> {
+    let past_limits = if allowed { "NO 6" } else { "NO 5" };
+    let within_limits = if allowed { "NO 10" } else { "NO 5" };
+    let nines = format!("-{}", "9".repeat(400));
+    vec![
+        edge(&with(record, place, "-1"), within_limits),
+        edge(&with(record, place, "-10000000000"), within_limits),
+        edge(&with(record, place, "-10000000001"), past_limits),
+        edge(&with(record, place, "-18446744073709551616"), past_limits),
+        edge(&with(record, place, &nines), past_limits),
+    ]
+}
+
+/// The record with another field at a place.
+fn with(record: &str, place: usize, field: &str) -> String {
+    let mut fields: Vec<&str> = record.split(' ').collect();
+    fields[place] = field;
+    fields.join(" ")
+}
