@@ -6,11 +6,15 @@
 //! `answer` writes the output line.
 //!
 //! `exact` holds whole numbers of any size for the bounds of demand 3.
-//! `random`, `accepted_record`, `refused_record` and `stream` make random input.
+//! `random`, `accepted_record`, `refused_record` and `stream` make random input,
+//! `whole_book` the input of the speed comparison, and `stored_input` the inputs
+//! that are stored with the proved programs, which `input_text` helps to write.
+//! `program` runs a program, and `comparison` sets its answers beside ours.
 
 pub mod accepted_record;
 pub mod answer;
 pub mod book;
+pub mod comparison;
 pub mod exact;
 pub mod factor;
 pub mod input_text;

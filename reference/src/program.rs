@@ -17,7 +17,8 @@ pub fn answers<'a>(program: &Path, pieces: impl IntoIterator<Item = &'a [u8]>) -
     let mut process = Command::new(program)
         .stdin(Stdio::piped())
         .stdout(Stdio::piped())
-        .spawn()?;
+        .spawn()
+        .map_err(|error| failure(program, &error))?;
     let mut input = process.stdin.take().expect("its input is a pipe");
     let mut output = process.stdout.take().expect("its output is a pipe");
     // Read beside the writing, so that neither waits for the other.
@@ -35,7 +36,7 @@ pub fn answers<'a>(program: &Path, pieces: impl IntoIterator<Item = &'a [u8]>) -
     if status.success() {
         Ok(answers)
     } else {
-        Err(Error::other(format!("{}: {status}", program.display())))
+        Err(failure(program, &status))
     }
 }
 
@@ -45,11 +46,15 @@ pub fn timed_run(program: &Path, input: &Path, output: &Path) -> Result<Duration
     command.stdin(File::open(input)?);
     command.stdout(File::create(output)?);
     let start = Instant::now();
-    let status = command.status()?;
+    let status = command.status();
     let time = start.elapsed();
-    if status.success() {
-        Ok(time)
-    } else {
-        Err(Error::other(format!("{}: {status}", program.display())))
+    match status {
+        Ok(status) if status.success() => Ok(time),
+        Ok(status) => Err(failure(program, &status)),
+        Err(error) => Err(failure(program, &error)),
     }
+}
+
+fn failure(program: &Path, what: &dyn std::fmt::Display) -> Error {
+    Error::other(format!("{}: {what}", program.display()))
 }
