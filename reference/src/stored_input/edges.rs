@@ -2,6 +2,7 @@
 //! document 01 asks for, worked out by hand.
 
 mod bytes;
+mod halves;
 mod lines;
 mod numbers;
 mod patterns;
@@ -27,6 +28,7 @@ pub fn edges() -> Vec<Edge> {
     edges.extend(patterns::edges());
     edges.extend(years::edges());
     edges.extend(questions::edges());
+    edges.extend(halves::edges());
     edges.push(edge("LINE T 7", "LINE T 7"));
     edges
 }
