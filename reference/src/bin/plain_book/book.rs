@@ -92,7 +92,8 @@ impl Book {
     fn give_pattern(&mut self, reader: &mut Reader, output: &mut Vec<u8>) -> Result<(), u8> {
         let letter = reader.letter()?;
         let year = reader.number(&YEAR)?;
-        let cumulative = read_cumulative(reader, letter.ages())?;
+        let mut cumulative = Cumulative::default();
+        read_cumulative(reader, letter.ages(), &mut cumulative)?;
         let line = self.lines[letter.place()].if_declared()?;
         let discount = self.discounts[(year - YEAR.lowest) as usize].ok_or(9)?;
         if !line.takes_pattern(year) {
@@ -107,7 +108,8 @@ impl Book {
     fn close_year(&mut self, reader: &mut Reader, output: &mut Vec<u8>) -> Result<(), u8> {
         let letter = reader.letter()?;
         let year = reader.number(&YEAR)?;
-        let rows = read_rows(reader, letter.ages() + 1)?;
+        let mut rows = [Row::default(); 11];
+        read_rows(reader, &mut rows[..letter.ages() + 1])?;
         let line = self.lines[letter.place()].if_declared()?;
         if year != line.last_pattern || year == line.last_closed {
             return Err(10);
@@ -168,24 +170,24 @@ impl Line {
     }
 }
 
-fn read_cumulative(reader: &mut Reader, ages: usize) -> Result<Cumulative, u8> {
-    let mut paid = [0; 10];
-    let mut incurred = [0; 10];
-    for (paid, incurred) in paid.iter_mut().zip(&mut incurred).take(ages) {
+fn read_cumulative(
+    reader: &mut Reader,
+    ages: usize,
+    cumulative: &mut Cumulative,
+) -> Result<(), u8> {
+    let pairs = cumulative.paid.iter_mut().zip(&mut cumulative.incurred);
+    for (paid, incurred) in pairs.take(ages) {
         *paid = reader.number(&AMOUNT)?;
         *incurred = reader.number(&AMOUNT)?;
     }
-    reader.end_record()?;
-    Ok(Cumulative { paid, incurred })
+    reader.end_record()
 }
 
-fn read_rows(reader: &mut Reader, count: usize) -> Result<[Row; 11], u8> {
-    let mut rows = [Row::default(); 11];
-    for row in rows.iter_mut().take(count) {
+fn read_rows(reader: &mut Reader, rows: &mut [Row]) -> Result<(), u8> {
+    for row in rows {
         row.paid = reader.signed_amount()?;
         row.unpaid = reader.number(&AMOUNT)?;
         row.tabular = reader.number(&AMOUNT)?;
     }
-    reader.end_record()?;
-    Ok(rows)
+    reader.end_record()
 }

@@ -5,6 +5,7 @@
 const WHOLE: u64 = 200_000_000;
 
 /// A pattern's paid and incurred, youngest age first.
+#[derive(Default)]
 pub struct Cumulative {
     pub paid: [u64; 10],
     pub incurred: [u64; 10],

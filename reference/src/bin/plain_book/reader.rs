@@ -34,12 +34,11 @@ pub enum Word {
     Year,
 }
 
-/// The input and the place in it. An error is the number of the question that
-/// was answered no.
+/// What is left of the input. An error is the number of the question that was
+/// answered no.
 pub struct Reader<'a> {
-    input: &'a [u8],
-    place: usize,
-    line_start: usize,
+    rest: &'a [u8],
+    line_start: &'a [u8],
     badly_written: bool,
     past_limits: bool,
 }
@@ -47,9 +46,8 @@ pub struct Reader<'a> {
 impl<'a> Reader<'a> {
     pub fn new(input: &'a [u8]) -> Reader<'a> {
         Reader {
-            input,
-            place: 0,
-            line_start: 0,
+            rest: input,
+            line_start: input,
             badly_written: false,
             past_limits: false,
         }
@@ -57,25 +55,26 @@ impl<'a> Reader<'a> {
 
     /// Whether there is another line.
     pub fn begin_line(&mut self) -> bool {
-        self.line_start = self.place;
+        self.line_start = self.rest;
         self.badly_written = false;
         self.past_limits = false;
-        self.place < self.input.len()
+        !self.rest.is_empty()
     }
 
     /// Steps over the byte 10 of a line that was read to its end.
     pub fn end_line(&mut self) {
-        self.place += 1;
+        if let [LINE_END, after @ ..] = self.rest {
+            self.rest = after;
+        }
     }
 
     /// Goes to the end of a refused line and gives the number of its refusal.
     /// A line past 1,024 bytes is always refused, since the longest record
     /// with numbers within their limits is shorter.
     pub fn skip_line(&mut self, question: u8) -> u8 {
-        let rest = self.input.get(self.place..).unwrap_or_default();
-        let to_end = rest.iter().position(|byte| *byte == LINE_END);
-        self.place += to_end.unwrap_or(rest.len());
-        if self.place - self.line_start > LONGEST_LINE {
+        let to_end = self.rest.iter().position(|byte| *byte == LINE_END);
+        self.rest = &self.rest[to_end.unwrap_or(self.rest.len())..];
+        if self.line_start.len() - self.rest.len() > LONGEST_LINE {
             1
         } else {
             question
@@ -84,14 +83,14 @@ impl<'a> Reader<'a> {
 
     /// The first field.
     pub fn word(&mut self) -> Result<Word, u8> {
-        let word = match self.input.get(self.place..self.place + 4) {
-            Some(b"LINE") => Word::Line,
-            Some(b"RATE") => Word::Rate,
-            Some(b"PATT") => Word::Pattern,
-            Some(b"YEAR") => Word::Year,
+        let (word, after) = match self.rest {
+            [b'L', b'I', b'N', b'E', after @ ..] => (Word::Line, after),
+            [b'R', b'A', b'T', b'E', after @ ..] => (Word::Rate, after),
+            [b'P', b'A', b'T', b'T', after @ ..] => (Word::Pattern, after),
+            [b'Y', b'E', b'A', b'R', after @ ..] => (Word::Year, after),
             _ => return Err(2),
         };
-        self.place += 4;
+        self.rest = after;
         if self.at_field_end() {
             Ok(word)
         } else {
@@ -101,9 +100,11 @@ impl<'a> Reader<'a> {
 
     /// The second field, if it is a covered letter.
     pub fn letter(&mut self) -> Result<Letter, u8> {
-        self.begin_field().map_err(|_| 3)?;
-        let letter = Letter::covered(self.byte()).ok_or(3)?;
-        self.place += 1;
+        let [TAB, byte, after @ ..] = self.rest else {
+            return Err(3);
+        };
+        let letter = Letter::covered(*byte).ok_or(3)?;
+        self.rest = after;
         if self.at_field_end() {
             Ok(letter)
         } else {
@@ -123,18 +124,21 @@ impl<'a> Reader<'a> {
     /// The next field, an amount before which a minus sign may stand.
     pub fn signed_amount(&mut self) -> Result<i64, u8> {
         self.begin_field()?;
-        let negative = self.byte() == b'-';
-        self.place += usize::from(negative);
-        self.badly_written |= negative && self.byte() == b'0';
+        let [b'-', after @ ..] = self.rest else {
+            let amount = self.digits();
+            self.past_limits |= amount > AMOUNT.highest;
+            return Ok(amount as i64);
+        };
+        self.rest = after;
+        self.badly_written |= after.first() == Some(&b'0');
         let size = self.digits();
         self.past_limits |= size > AMOUNT.highest;
-        let size = size as i64;
-        Ok(if negative { size.wrapping_neg() } else { size })
+        Ok((size as i64).wrapping_neg())
     }
 
     /// The end of the record: questions 4, 5 and 6, in this order.
     pub fn end_record(&self) -> Result<(), u8> {
-        if self.byte() == TAB {
+        if self.rest.first() == Some(&TAB) {
             Err(4)
         } else if self.badly_written {
             Err(5)
@@ -145,44 +149,36 @@ impl<'a> Reader<'a> {
         }
     }
 
-    /// The byte at this place. The input ends like a line.
-    fn byte(&self) -> u8 {
-        self.input.get(self.place).copied().unwrap_or(LINE_END)
-    }
-
+    /// A field ends with a tab, with its line or with the input.
     fn at_field_end(&self) -> bool {
-        matches!(self.byte(), TAB | LINE_END)
+        matches!(self.rest, [] | [TAB | LINE_END, ..])
     }
 
     /// Steps over the tab before a field.
     fn begin_field(&mut self) -> Result<(), u8> {
-        if self.byte() != TAB {
+        let [TAB, after @ ..] = self.rest else {
             return Err(4);
-        }
-        self.place += 1;
+        };
+        self.rest = after;
         Ok(())
     }
 
     /// The digits up to the end of the field.
     fn digits(&mut self) -> u64 {
-        let rest = self.input.get(self.place..).unwrap_or_default();
+        let field = self.rest;
+        let mut rest = field;
         let mut number = 0_u64;
-        let mut length = 0;
-        let mut end = LINE_END;
-        for byte in rest {
-            let digit = byte.wrapping_sub(b'0');
-            if digit > 9 {
-                end = *byte;
-                break;
-            }
-            number = number.wrapping_mul(10).wrapping_add(u64::from(digit));
-            length += 1;
+        while let [digit @ b'0'..=b'9', after @ ..] = rest {
+            number = number
+                .wrapping_mul(10)
+                .wrapping_add(u64::from(digit - b'0'));
+            rest = after;
         }
-        let leading_zero = length > 1 && rest.first() == Some(&b'0');
-        self.badly_written |= length == 0 || leading_zero;
+        let length = field.len() - rest.len();
+        self.badly_written |= length == 0 || (length > 1 && field[0] == b'0');
         self.past_limits |= length > MOST_DIGITS;
-        self.place += length;
-        if end != TAB && end != LINE_END {
+        self.rest = rest;
+        if !self.at_field_end() {
             self.skip_field();
         }
         number
@@ -192,7 +188,7 @@ impl<'a> Reader<'a> {
     fn skip_field(&mut self) {
         self.badly_written = true;
         while !self.at_field_end() {
-            self.place += 1;
+            self.rest = &self.rest[1..];
         }
     }
 }
