@@ -53,7 +53,7 @@ pub fn put_done(out: &mut [u8], at: usize, accepted: u64, refused: u64) -> usize
 }
 
 // Is there room for the longest text?
-fn has_room(out: &[u8], at: usize) -> bool
+pub fn has_room(out: &[u8], at: usize) -> bool
     ensures { λ r. ⌜ r ≡ hasRoom (now (out .entry)) at ⌝ }
 {
     if out.len() < MOST {

@@ -1,41 +1,15 @@
 -- The loop that looks for the end of a line: how far it is, and what it finds.
 -- Assumes nothing.
 use mathlib.Core.List.{List, [], _∷_, _++_}
-use mathlib.Core.Path.{_≡_, refl, _∙_}
+use mathlib.Core.Path.{_≡_, _∙_}
 use Prim.Native.Nat.{ℕ, suc, _+_, _-_, _≤_, _<_}
 use native.Mathlib.Omega.{arith}
 use native.Mathlib.Numerals.{add-one}
-use borrow.Author.Tests.{ne-eqb}
 use lib.ListN.{length, take, drop, getD, length-take, length-drop, drop-of-length-le}
 use lib.Seq.{take-suc, drop-cons, getD-drop}
-use Rattle.model.specs.Input.{push, linesOf}
+use Rattle.model.specs.Input.{linesOf}
+use Rattle.model.proofs.Lines.{ahead, ahead-append, ahead-of-line, ahead-of-none, lines-on, lines-end}
 use Rattle.journal.specs.Input.{LineEnd}
-
--- the parts of a rest, with bytes before it of which none is 10
-abbrev ahead : List ℕ → List (List ℕ) → List (List ℕ)
-ahead [] parts = parts
-ahead (b ∷ bytes) parts = push b (ahead bytes parts)
-
-ahead-append : (bytes more : List ℕ) (parts : List (List ℕ)) → ahead (bytes ++ more) parts ≡ ahead bytes (ahead more parts)
-ahead-append [] more parts = refl
-ahead-append (b ∷ bytes) more parts = rw (ahead-append bytes more parts)
-
-ahead-of-line : (bytes : List ℕ) (parts : List (List ℕ)) → ahead bytes ([] ∷ parts) ≡ bytes ∷ parts
-ahead-of-line [] parts = refl
-ahead-of-line (b ∷ bytes) parts = rw (ahead-of-line bytes parts)
-
-ahead-of-none : (bytes : List ℕ) → 0 < length bytes → ahead bytes [] ≡ bytes ∷ []
-ahead-of-none [] lt = absurd (omega arith)
-ahead-of-none (b ∷ []) lt = refl
-ahead-of-none (b ∷ c ∷ bytes) lt = rw (ahead-of-none (c ∷ bytes) (omega arith))
-
-lines-on : (b : ℕ) (input : List ℕ) → (b ≡ 10 → ⊥) → linesOf (b ∷ input) ≡ push b (linesOf input)
-unfolding linesOf
-lines-on b input n = rw (ne-eqb b 10 n)
-
-lines-end : (b : ℕ) (input : List ℕ) → b ≡ 10 → linesOf (b ∷ input) ≡ [] ∷ linesOf input
-unfolding linesOf
-lines-end b input e = rw e
 
 -- no byte from `start` to before `at` ends the line
 pub record Within (input : List ℕ) (start at : ℕ) : Type 0 where

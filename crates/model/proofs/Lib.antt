@@ -13,6 +13,7 @@ pub mod Facts
 pub mod HalfYear
 pub mod Invariant
 pub mod Lengths
+pub mod Lines
 pub mod Lists
 pub mod Near
 pub mod OldRow

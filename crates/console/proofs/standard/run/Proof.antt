@@ -1,0 +1,87 @@
+-- `console::standard::run` meets its contract. Assumes nothing.
+use mathlib.Core.Path.{_≡_}
+use lib.ListN.{length}
+use borrow.Author.Needs.{needs}
+use Rattle.console.proofs.standard.run.Statement.{statement}
+use Rattle.console.proofs.standard.run.Tie as tie
+
+abbrev Inv-loop : tie.InvT-loop
+Inv-loop patterns₀ so-far₀ piece₀ out₀ turns₀ patterns so-far piece out turns = 65536 ≡ length piece
+
+abbrev μ-loop : tie.MeasureT-loop
+μ-loop patterns₀ so-far₀ piece₀ out₀ turns₀ patterns so-far piece out turns = turns
+
+start-requires : tie.Need-start-requires Inv-loop μ-loop
+start-requires c κs = search needs
+
+large-buffer-requires : tie.Need-large-buffer-requires Inv-loop μ-loop
+large-buffer-requires c κs = search needs
+
+large-buffer-requires-2 : tie.Need-large-buffer-requires-2 Inv-loop μ-loop
+large-buffer-requires-2 c κs = search needs
+
+loop-holds : tie.Need-loop-holds Inv-loop μ-loop
+loop-holds c = search needs
+
+slice-aggregate-read : tie.Need-slice-aggregate-read Inv-loop μ-loop
+slice-aggregate-read c = search needs
+
+read-requires : tie.Need-read-requires Inv-loop μ-loop
+read-requires c κs = search needs
+
+slice-aggregate-count : tie.Need-slice-aggregate-count Inv-loop μ-loop
+slice-aggregate-count c = search needs
+
+count-requires : tie.Need-count-requires Inv-loop μ-loop
+count-requires c κs = search needs
+
+array-share-prefix-piece : tie.Need-array-share-prefix-piece Inv-loop μ-loop
+array-share-prefix-piece c = search needs
+
+slice-aggregate-take-piece : tie.Need-slice-aggregate-take-piece Inv-loop μ-loop
+slice-aggregate-take-piece c = search needs
+
+take-piece-requires : tie.Need-take-piece-requires Inv-loop μ-loop
+take-piece-requires c κs = search needs
+
+returns : tie.Need-returns Inv-loop μ-loop
+returns c = search needs
+
+sub-turns : tie.Need-sub-turns Inv-loop μ-loop
+sub-turns c = search needs
+
+loop-less : tie.Need-loop-less Inv-loop μ-loop
+loop-less c = search needs
+
+loop-again : tie.Need-loop-again Inv-loop μ-loop
+loop-again c = search needs
+
+finish-requires : tie.Need-finish-requires Inv-loop μ-loop
+finish-requires c κs = search needs
+
+returns-2 : tie.Need-returns-2 Inv-loop μ-loop
+returns-2 c = search needs
+
+pub run-spec : {M : Type 1} → statement M
+run-spec =
+    tie.close
+    (tie.spec
+    Inv-loop
+    μ-loop
+    start-requires
+    large-buffer-requires
+    large-buffer-requires-2
+    loop-holds
+    slice-aggregate-read
+    read-requires
+    slice-aggregate-count
+    count-requires
+    array-share-prefix-piece
+    slice-aggregate-take-piece
+    take-piece-requires
+    returns
+    sub-turns
+    loop-less
+    loop-again
+    finish-requires
+    returns-2)

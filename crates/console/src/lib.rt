@@ -1,0 +1,4 @@
+// From standard input to standard output.
+mod standard;
+
+pub use standard::run;

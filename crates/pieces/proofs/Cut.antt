@@ -1,0 +1,44 @@
+-- Of a line, 1,025 bytes tell all: a longer one is refused by its length alone.
+-- Assumes nothing.
+use mathlib.Core.Logic.{⊎-elim}
+use mathlib.Core.List.{List, [], _∷_, _++_}
+use mathlib.Core.Path.{_≡_, refl, sym, _∙_}
+use mathlib.Core.Option.{some}
+use Prim.Native.Nat.{ℕ, zero, suc, _-_, _<_}
+use native.Mathlib.Nat.{eq-zero-or-pos}
+use native.Mathlib.Omega.{arith}
+use borrow.Author.Tests.{lt-leb}
+use lib.ListN.{length, take, length-take}
+use lib.Seq.{take-all}
+use Rattle.model.specs.Question.{firstNo}
+use Rattle.model.specs.Answer.{text}
+use Rattle.model.specs.Step.{asBytes, questions, refuse}
+use Rattle.model.proofs.Steps.{first-is-length, step-is}
+use Rattle.ledger.specs.Does.{slotsAfter}
+use Rattle.pieces.specs.Progress.{Progress, ended}
+
+pub take-join : {A : Type 0} (n : ℕ) (xs ys : List A) → take n (take n xs ++ ys) ≡ take n (xs ++ ys)
+take-join zero xs ys = refl
+take-join (suc n) [] ys = refl
+take-join (suc n) (x ∷ xs) ys = rw (take-join n xs ys)
+
+-- the progress with another line
+abbrev pub with-line : Progress → List ℕ → Progress
+with-line s line = record { book = s .book; slots = s .slots; line = line; written = s .written }
+
+-- a long line is refused
+ended-long : (s : Progress) (line : List ℕ) → 1024 < length line
+    → ended (with-line s line) ≡ record { book = refuse (s .book) 1 .book; slots = s .slots; line = []; written = s .written ++ text (refuse (s .book) 1 .answer) }
+unfolding ended slotsAfter
+ended-long s line long =
+    let first : firstNo (questions (s .book) (asBytes line)) ≡ some 1 = first-is-length (s .book) line (lt-leb (length line) 1024 long) in
+    rw (step-is (s .book) (asBytes line) (some 1) first, first)
+
+pub ended-cut : (s : Progress) (line : List ℕ) → ended (with-line s (take 1025 line)) ≡ ended (with-line s line)
+ended-cut s line =
+    ⊎-elim
+    (λ (z : length line - 1025 ≡ 0). rw (take-all 1025 line (omega arith)))
+    (λ (p : 0 < length line - 1025).
+    let cut : 1024 < length (take 1025 line) = rw (length-take 1025 line) (omega arith) in
+    ended-long s (take 1025 line) cut ∙ sym (ended-long s line (omega arith)))
+    (eq-zero-or-pos (length line - 1025))

@@ -1,0 +1,6 @@
+pub mod Answering
+pub mod Cut
+pub mod Feeding
+pub mod Joining
+pub mod LineFound
+pub mod Pieces

@@ -1,0 +1,63 @@
+-- Document 01, "A run of the book's program", byte by byte: how far a run has come, and what the next byte does. The law that this is the model's run, however the input is cut, is in proofs/Pieces.antt.
+-- Assumes nothing: these are definitions.
+use mathlib.Core.List.{List, [], _∷_, _++_}
+use Prim.Native.Nat.{ℕ, suc, _+_}
+use lib.Dec.{eqb, leb}
+use lib.ListN.{length, take}
+use Rattle.model.specs.Basics.{if_then_else_}
+use Rattle.model.specs.Book.{Book, empty}
+use Rattle.model.specs.Question.{firstNo}
+use Rattle.model.specs.Answer.{text, doneText}
+use Rattle.model.specs.Step.{asBytes, asked, questions, step}
+use Rattle.ledger.specs.Does.{slotsAfter}
+
+-- the book, the lent list of patterns, the line so far, and what was written
+pub record Progress : Type 0 where
+  pub book : Book
+  pub slots : List ℕ
+  pub line : List ℕ
+  pub written : List ℕ
+
+-- before the first byte
+abbrev pub start : List ℕ → Progress
+start slots = record { book = empty; slots = slots; line = []; written = [] }
+
+-- the line has ended: it is a record, and its answer is written
+unfoldable pub ended : Progress → Progress
+ended s =
+    let request = asBytes (s .line) in
+    record {
+      book = step (s .book) request .book;
+      slots = slotsAfter (firstNo (questions (s .book) request)) (s .book) (asked request) (s .slots);
+      line = [];
+      written = s .written ++ text (step (s .book) request .answer);
+    }
+
+-- the line goes on; 1,025 bytes of it are enough to refuse it
+unfoldable pub lengthened : Progress → List ℕ → Progress
+lengthened s bytes = record { book = s .book; slots = s .slots; line = take 1025 (s .line ++ bytes); written = s .written }
+
+-- "Lines end with byte 10, which is not counted in the line"
+unfoldable pub taking : Progress → ℕ → Progress
+taking s b = if eqb b 10 then ended s else lengthened s (b ∷ [])
+
+unfoldable pub takingAll : Progress → List ℕ → Progress
+takingAll s [] = s
+takingAll s (b ∷ bytes) = takingAll (taking s b) bytes
+
+-- how many bytes of a piece are taken into a buffer of a size: a byte is taken while the longest text, of 320 bytes, has room
+unfoldable pub takenOf : ℕ → Progress → List ℕ → ℕ
+takenOf size s [] = 0
+takenOf size s (b ∷ bytes) = if leb (length (s .written) + 320) size then suc (takenOf size (taking s b) bytes) else 0
+
+-- ".. or at the end of input; nothing after the last byte 10 is no record."
+abbrev closedBy : Progress → List ℕ → Progress
+closedBy s [] = s
+closedBy s (b ∷ line) = ended s
+
+unfoldable pub closed : Progress → Progress
+closed s = closedBy s (s .line)
+
+-- "DONE closes every run": all that is written
+unfoldable pub output : Progress → List ℕ
+output s = closed s .written ++ doneText (closed s .book .accepted) (closed s .book .refused)

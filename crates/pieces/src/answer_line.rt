@@ -1,0 +1,52 @@
+// A line that has ended: its record applied, and the answer's text put.
+use crate::line::count;
+use crate::line::join;
+use answer::text::put_answer;
+use journal::apply::apply;
+use state::book::Book;
+use state::book::Patterns;
+ghost use mathlib.Core.List.{_++_};
+ghost use Rattle.pieces.specs.Feed.{Answers};
+
+// The later book, and the place after the text.
+pub struct Answered {
+    pub book: Book,
+    pub next: usize,
+}
+
+pub fn answer_line(
+    book: Book,
+    patterns: &mut Patterns,
+    line: &[u8],
+    out: &mut [u8],
+    at: usize,
+) -> Answered
+    ensures { λ r. ⌜ Answers book (now (patterns .entry)) (now (line .entry)) (now (out .entry)) at r (now (patterns .exit)) (now (out .exit)) ⌝ }
+{
+    let outcome = apply(book, patterns, line);
+    let answer = outcome.answer;
+    let published = outcome.published;
+    let next = put_answer(out, at, answer, published);
+    let later = outcome.book;
+    Answered { book: later, next }
+}
+
+// A line of which a piece before this one held the start.
+pub fn answer_joined(
+    book: Book,
+    patterns: &mut Patterns,
+    begun: &[u8],
+    rest: &[u8],
+    out: &mut [u8],
+    at: usize,
+) -> Answered
+    ensures { λ r. ⌜ Answers book (now (patterns .entry)) (now (begun .entry) ++ now (rest .entry)) (now (out .entry)) at r (now (patterns .exit)) (now (out .exit)) ⌝ }
+{
+    if begun.len() == 0 {
+        return answer_line(book, patterns, rest, out, at);
+    }
+    let line = join(begun, rest);
+    let count = count(line);
+    let bytes = line.bytes;
+    answer_line(book, patterns, &bytes[..count], out, at)
+}

@@ -1,0 +1,4 @@
+// The book program on an empty input.
+fn main() {
+    console::run()
+}
