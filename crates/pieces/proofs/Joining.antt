@@ -106,3 +106,7 @@ by-length l n =
 
 pub same-front : (l : List ℕ) (n : ℕ) → take (length (take n l)) l ≡ take n l
 same-front l n = ap (λ (k : ℕ). take k l) (length-take n l) ∙ by-length l n
+
+-- a line so far is short
+pub begun-short : (n : ℕ) (bytes : List ℕ) → length bytes ≡ 1025 → length (take n bytes) ≤ 1025
+begun-short n bytes e = rw (length-take n bytes) (omega (arith, e))

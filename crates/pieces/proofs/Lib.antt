@@ -1,5 +1,6 @@
 pub mod Answering
 pub mod Cut
+pub mod FeedEnds
 pub mod Feeding
 pub mod Joining
 pub mod LineFound

@@ -1,9 +1,10 @@
 -- What the run's functions answer, by the progress of a run.
 -- Assumes nothing: these are definitions.
+use mathlib.Core.Bool.{true}
 use mathlib.Core.List.{List, []}
 use mathlib.Core.Path.{_≡_}
-use Prim.Native.Nat.{ℕ}
-use lib.ListN.{length, take}
+use Prim.Native.Nat.{ℕ, _+_, _≤_}
+use lib.ListN.{length, take, drop}
 use Rattle.model.specs.Answer.{text}
 use Rattle.model.specs.Question.{firstNo}
 use Rattle.model.specs.Step.{asBytes, asked, questions, step}
@@ -11,9 +12,11 @@ use Rattle.state.specs.declared.book.Book.{Book}
 use Rattle.state.specs.View.{view}
 use Rattle.ledger.specs.Does.{slotsAfter}
 use Rattle.answer.specs.Put.{Puts}
-use Rattle.answer.specs.Text.{PutsWithRoom}
+use Rattle.answer.specs.Text.{hasRoom, PutsWithRoom}
+use Rattle.bytes.specs.Bytes.{indexOf}
 use Rattle.pieces.specs.declared.line.OpenLine.{OpenLine}
 use Rattle.pieces.specs.declared.answer_line.Answered.{Answered}
+use Rattle.pieces.specs.declared.answer_lines.Lines.{Lines}
 use Rattle.pieces.specs.declared.feed.Run.{Run}
 use Rattle.pieces.specs.declared.feed.Fed.{Fed}
 use Rattle.pieces.specs.Progress.{Progress, start, closed, takingAll, takenOf}
@@ -21,9 +24,12 @@ use Rattle.pieces.specs.Progress.{Progress, start, closed, takingAll, ta
 abbrev pub bytesOf : OpenLine → List ℕ
 bytesOf line = take (line .count) (line .bytes)
 
--- how far the run has come with this run and this lent list; what was written is out of its hands
+-- how far a run has come before a piece; what was written is out of its hands
+abbrev pub before : Book → List ℕ → List ℕ → Progress
+before book slots line = record { book = view book slots; slots = slots; line = line; written = [] }
+
 abbrev pub progressOf : Run → List ℕ → Progress
-progressOf run slots = record { book = view (run .book) slots; slots = slots; line = bytesOf (run .line); written = [] }
+progressOf run slots = before (run .book) slots (bytesOf (run .line))
 
 abbrev pub IsStart : Run → Type 0
 IsStart run = (slots : List ℕ) → progressOf run slots ≡ start slots
@@ -39,6 +45,21 @@ pub record Reaches (book : Book) (slots : List ℕ) (out : List ℕ) (put : ℕ)
   pub later : view book slots ≡ s .book
   pub lent : slots ≡ s .slots
   pub puts : Puts out 0 (s .written) laterOut put
+
+-- the first `at` bytes of a piece are taken, and of the line that was begun before it `count` bytes still wait for its end
+pub record FedTo (start : Progress) (begun piece out : List ℕ) (book : Book) (count at put : ℕ) (slots laterOut : List ℕ) : Type 0 where
+  pub kept : length begun ≤ 1025
+  pub inside : at ≤ length piece
+  pub few : count ≤ length begun
+  pub same : length laterOut ≡ length out
+  pub reached : Reaches book slots out put (takingAll start (take at piece)) laterOut
+  pub line : take count begun ≡ takingAll start (take at piece) .line
+  pub left : takenOf (length out) start piece ≡ at + takenOf (length out) (takingAll start (take at piece)) (drop at piece)
+
+-- the lines that end in a piece: where there is still room, no line ends in the rest
+pub record AnswersLines (book : Book) (slots begun piece out : List ℕ) (r : Lines) (laterSlots laterOut : List ℕ) : Type 0 where
+  pub fed : FedTo (before book slots begun) begun piece out (r .book) (r .begun) (r .at) (r .put) laterSlots laterOut
+  pub over : hasRoom laterOut (r .put) ≡ true → indexOf 10 (drop (r .at) piece) ≡ length (drop (r .at) piece)
 
 -- a piece: the bytes that are taken, one after the other
 pub record Feeds (run : Run) (slots piece out : List ℕ) (r : Fed) (laterSlots laterOut : List ℕ) : Type 0 where

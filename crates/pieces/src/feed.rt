@@ -1,12 +1,11 @@
 // A piece of the input: its lines answered one after the other, and the line that it leaves open.
 use crate::answer_line::Answered;
-use crate::answer_line::answer_joined;
 use crate::answer_line::answer_line;
+use crate::answer_lines::answer_lines;
 use crate::line::OpenLine;
 use crate::line::count;
 use crate::line::join;
 use answer::text::has_room;
-use bytes::scan::find;
 use state::book::Book;
 use state::book::Patterns;
 use state::book::empty;
@@ -44,43 +43,25 @@ pub fn feed(run: Run, patterns: &mut Patterns, piece: &[u8], out: &mut [u8]) -> 
 {
     let line = run.line;
     let bytes = line.bytes;
-    let mut begun = count(line);
-    let mut book = run.book;
-    let mut at = 0;
-    let mut put = 0;
-    while at < piece.len() && has_room(out, put) {
-        let end = find(piece, at, piece.len(), 10);
-        if end < piece.len() {
-            let answered = answer_joined(
-                book,
-                patterns,
-                &bytes[..begun],
-                &piece[at..end],
-                out,
-                put,
-            );
-            let later = answered.book;
-            book = later;
-            put = answered.next;
-            begun = 0;
-            at = end + 1;
-        } else {
-            let longer = join(&bytes[..begun], &piece[at..]);
-            let later = Run { book, line: longer };
-            return Fed {
-                run: later,
-                taken: end,
-                put,
-            };
-        }
+    let begun = count(line);
+    let lines = answer_lines(run.book, patterns, &bytes[..begun], piece, out);
+    let book = lines.book;
+    let begun = lines.begun;
+    let at = lines.at;
+    let put = lines.put;
+    if has_room(out, put) {
+        let longer = join(&bytes[..begun], &piece[at..]);
+        let taken = piece.len();
+        let run = Run { book, line: longer };
+        return Fed { run, taken, put };
     }
     let rest = OpenLine {
         bytes,
         count: begun,
     };
-    let later = Run { book, line: rest };
+    let run = Run { book, line: rest };
     Fed {
-        run: later,
+        run,
         taken: at,
         put,
     }

@@ -1,7 +1,7 @@
 -- `pieces::feed::close` meets its contract. Assumes nothing.
 use borrow.Author.Needs.{needs}
 use Rattle.pieces.proofs.Joining.{count-fits, count-exact}
-use Rattle.pieces.proofs.Feeding.{closes-none, closes-line}
+use Rattle.pieces.proofs.FeedEnds.{closes-none, closes-line}
 use Rattle.pieces.proofs.feed.close.Statement.{statement}
 use Rattle.pieces.proofs.feed.close.Tie as tie
 

@@ -1,6 +1,6 @@
 -- `pieces::feed::start` meets its contract. Assumes nothing.
 use borrow.Author.Needs.{needs}
-use Rattle.pieces.proofs.Feeding.{starts}
+use Rattle.pieces.proofs.FeedEnds.{starts}
 use Rattle.pieces.proofs.feed.start.Statement.{statement}
 use Rattle.pieces.proofs.feed.start.Tie as tie
 
