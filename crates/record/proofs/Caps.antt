@@ -14,10 +14,11 @@ use Rattle.model.specs.Number.{natural, integer}
 use Rattle.model.specs.Call.{Call, declare, setRate, addPattern, closeYear}
 use Rattle.model.specs.Question.{isWithinLimits}
 use Rattle.model.proofs.Lists.{and-left, and-right}
-use Rattle.record.specs.Number.{most, capped, hasMinus, whole}
+use Rattle.field.specs.Number.{most, capped, hasMinus}
+use Rattle.field.proofs.Signs.{natural-minus}
+use Rattle.record.specs.Column.{whole}
 use Rattle.record.specs.Request.{asks}
 use Rattle.record.specs.Limits.{judged}
-use Rattle.record.proofs.Signs.{natural-minus}
 
 high-by : (n limit : ℕ) (t : Bool) → leb n limit ≡ t → limit < most → leb (min n most) limit ≡ t
 high-by n limit true e lt = le-leb (min n most) limit (omega (arith, leb-true n limit e))

@@ -13,8 +13,8 @@ use mir.Syntax.{w64}
 use mir.Val.{SFits, toZ, ofZ}
 use mir.Facts.{toZ-pos, toZ-ofZ}
 use Rattle.model.specs.Field.{field, column}
-use Rattle.record.specs.Number.{most, whole}
-use Rattle.record.specs.Column.{each, sizeAt, paidAt}
+use Rattle.field.specs.Number.{most}
+use Rattle.record.specs.Column.{each, whole, sizeAt, paidAt}
 
 -- one value more
 each-snoc : {A : Type 0} (f : ℕ → A) (n step k : ℕ) → each f (suc n) step k ≡ each f n step k ++ (f (k + n * step) ∷ [])

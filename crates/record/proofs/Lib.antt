@@ -1,13 +1,7 @@
 pub mod Answers
 pub mod Caps
 pub mod Columns
-pub mod Digits
-pub mod Fields
-pub mod Forms
 pub mod Gathers
 pub mod Judged
 pub mod Questions
 pub mod Samples
-pub mod Scan
-pub mod Signs
-pub mod Words

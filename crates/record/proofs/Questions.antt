@@ -1,25 +1,27 @@
 -- The questions one after the other.
 -- Assumes nothing.
-use mathlib.Core.Bool.{Bool, true, false, false≢true}
+use mathlib.Core.Bool.{Bool, true, false, _&&_, false≢true}
 use mathlib.Core.Path.{_≡_, refl, sym, _∙_}
 use mathlib.Core.List.{List, [], _∷_, map}
 use Prim.Native.Nat.{ℕ, suc, _+_, _*_, _≤_, _<_}
 use native.Mathlib.Omega.{arith}
-use borrow.Author.Tests.{eq-eqb, ne-eqb, le-leb, lt-leb}
-use lib.ListN.{length, getD}
+use borrow.Author.Tests.{eqb-true, eq-eqb, ne-eqb, le-leb, lt-leb}
+use lib.Dec.{eqb}
+use lib.ListN.{length, drop, getD}
 use Rattle.model.specs.Basics.{if_then_else_}
 use Rattle.model.specs.Letter.{tenYear, twoYear, ages}
 use Rattle.model.specs.Call.{Call}
 use Rattle.model.specs.Field.{fields, field, letterIn, column}
-use Rattle.model.specs.Record.{Word, LINE, RATE, PATT, YEAR, OTHER, wordOf, fieldCount, firstNumber, callFrom}
+use Rattle.model.specs.Record.{Word, LINE, RATE, PATT, YEAR, OTHER, wordOf, fieldCount, firstNumber, allWritten, callFrom}
 use Rattle.model.specs.Question.{isShort, hasWord, hasLetter, hasFields, isWellWritten, isWithinLimits, lineQuestions, firstNo}
-use Rattle.record.specs.Word.{isLettered}
-use Rattle.record.specs.Number.{capped}
+use Rattle.model.proofs.Lists.{and-left, and-right}
+use Rattle.field.specs.Word.{isLettered}
+use Rattle.field.specs.Number.{capped}
 use Rattle.record.specs.Gather.{Gathered}
 use Rattle.record.specs.Column.{each, sizeAt, paidAt}
 use Rattle.record.specs.Request.{refusedAt, asks, answered, readOf, empty, says}
 use Rattle.record.specs.Limits.{judged, callOf, Low, Judgeable}
-use Rattle.record.specs.Read.{fromWord, fromLetter, fromCount, fromWriting, Lettered, Counted}
+use Rattle.record.specs.Read.{fromWord, fromLetter, fromCount, Lettered}
 use Rattle.record.specs.declared.request.Request.{Request}
 use Rattle.record.specs.declared.request.Verdict.the-variants as verdict
 use Rattle.record.proofs.Columns.{each-column}
@@ -56,7 +58,7 @@ room OTHER letter h = absurd (false≢true h)
 
 -- the call of the sizes and signs that were gathered is within its limits just where the line's is, and is then that call
 module _ (fs : List (List ℕ)) (minus : List Bool) (sizes : List ℕ) where
-  same-call : (word : Word) → hasWord word ≡ true → length fs ≡ fieldCount word (letterIn fs) → Gathered word (firstNumber word) fs true minus sizes → judged (callOf word (letterIn fs) minus sizes) ≡ judged (callFrom word fs)
+  same-call : (word : Word) → hasWord word ≡ true → length fs ≡ fieldCount word (letterIn fs) → Gathered word (firstNumber word) (fieldCount word (letterIn fs)) fs true minus sizes → judged (callOf word (letterIn fs) minus sizes) ≡ judged (callFrom word fs)
   unfolding callFrom
   same-call LINE h n g = rw (g .values refl 2 (omega arith) (omega arith)) (line-same (letterIn fs) (field 2 fs))
   same-call RATE h n g =
@@ -80,45 +82,53 @@ module _ (fs : List (List ℕ)) (minus : List Bool) (sizes : List ℕ) where
       rw (year, paid, unpaid, tabular) (year-same (letterIn fs) (field 2 fs) (column k 3 3 fs) (column k 3 4 fs) (column k 3 5 fs))
   same-call OTHER h n g = absurd (false≢true h)
 
--- questions 5 and 6
-module _ (s : List ℕ) (word : Word) (letter count : ℕ) (p : Counted s word letter count) (place : ℕ) (e : place ≡ firstNumber word) where
-  pub writing-room : (count ≡ length (fields s)) × (place < count) × (count ≤ 62)
-  writing-room = let r = room word letter (p .known) in omega (arith, p .total, p .right, r .0, r .1)
+-- questions 4, 5 and 6
+module _ (s : List ℕ) (word : Word) (letter : ℕ) (p : Lettered s word letter) (expected : ℕ) (ex : expected ≡ fieldCount word letter) (place : ℕ) (e : place ≡ firstNumber word) where
+  pub numbers-room : (place < expected) × (expected ≤ 62)
+  numbers-room = let r = room word letter (p .known) in omega (arith, r .0, r .1)
 
-  module _ (t : Bool) (minus : List Bool) (sizes : List ℕ) (g : Gathered word place (fields s) t minus sizes) where
-    pub writing-not : (q : Request) → q ≡ empty verdict.Writing → t ≡ false → says q ≡ fromWriting word (fields s)
-    writing-not q eq t0 = rw (eq, ← e, ← g .written, t0)
+  there : expected ≡ fieldCount word (letterIn (fields s))
+  there = rw (p .second) at ex
 
+  module _ (t : Bool) (minus : List Bool) (sizes : List ℕ) (g : Gathered word place expected (fields s) t minus sizes) where
     module _ (t1 : t ≡ true) where
-      pub writing-judged : Judgeable word letter sizes
-      writing-judged = record { known = p .known; low = λ y i lt. low y i lt }
+      both : (eqb (length (fields s)) expected && allWritten word place (drop place (fields s))) ≡ true
+      both = sym (g .written) ∙ t1
+
+      count : eqb (length (fields s)) expected ≡ true
+      count = and-left (eqb (length (fields s)) expected) (allWritten word place (drop place (fields s))) both
+
+      total : length (fields s) ≡ expected
+      total = eqb-true (length (fields s)) expected count
+
+      pub numbers-judged : Judgeable word letter sizes
+      numbers-judged = record { known = p .known; low = λ y i lt. low y i lt }
         where
           low : word ≡ YEAR → Low letter sizes
           low y i lt =
               let f : firstNumber word ≡ 2 = rw y in
               let n : fieldCount word letter ≡ 6 + 3 * ages letter = rw y (year-count letter) in
-              omega (arith, g .values t1 (3 + i * 3) (omega arith) (omega (arith, p .total, p .right)))
+              omega (arith, g .values t1 (3 + i * 3) (omega arith) (omega (arith, total, ex)))
 
-      pub writing-is : (q : Request) → says q ≡ judged (callOf word letter minus sizes) → says q ≡ fromWriting word (fields s)
-      writing-is q h =
-          let w : isWellWritten word (fields s) ≡ true = rw (← e) (sym (g .written) ∙ t1) in
-          let n : length (fields s) ≡ fieldCount word (letterIn (fields s)) = rw (p .second) at (sym (p .total) ∙ p .right) in
+      pub numbers-are : (q : Request) → says q ≡ judged (callOf word letter minus sizes) → says q ≡ fromCount word (fields s)
+      numbers-are q h =
+          let w : isWellWritten word (fields s) ≡ true = rw (← e) (and-right (eqb (length (fields s)) expected) (allWritten word place (drop place (fields s))) both) in
+          let n : hasFields word (fields s) ≡ true = rw (← there) count in
           let h' : says q ≡ judged (callOf word (letterIn (fields s)) minus sizes) = rw (p .second) at h in
-          rw w (h' ∙ same-call (fields s) minus sizes word (p .known) n (rw (t1, e) at g))
+          rw (n, w) (h' ∙ same-call (fields s) minus sizes word (p .known) (total ∙ there) (rw (t1, e, there) at g))
 
--- question 4
-module _ (s : List ℕ) (word : Word) (letter : ℕ) (p : Lettered s word letter) (n : ℕ) (en : n ≡ length (fields s)) (c : ℕ) (ec : c ≡ fieldCount word letter) where
-  pub count-asks : n ≡ c → Counted s word letter n
-  count-asks x = record { known = p .known; second = p .second; total = en; right = x ∙ ec }
+    module _ (t0 : t ≡ false) (n : ℕ) (en : n ≡ length (fields s)) (q : Request) where
+      pub numbers-ill : n ≡ expected → q ≡ empty verdict.Writing → says q ≡ fromCount word (fields s)
+      numbers-ill x eq =
+          let c : eqb (length (fields s)) expected ≡ true = eq-eqb (length (fields s)) expected (sym en ∙ x) in
+          let w : isWellWritten word (fields s) ≡ false = rw (← e) (sym (rw (c, t0) at (g .written))) in
+          let h : hasFields word (fields s) ≡ true = rw (← there) c in
+          rw (eq, h, w)
 
-  there : c ≡ fieldCount word (letterIn (fields s))
-  there = rw (p .second) at ec
-
-  pub count-is : (q : Request) → n ≡ c → says q ≡ fromWriting word (fields s) → says q ≡ fromCount word (fields s)
-  count-is q x h = rw (eq-eqb (length (fields s)) (fieldCount word (letterIn (fields s))) (sym en ∙ x ∙ there)) h
-
-  pub count-not : (q : Request) → (n ≡ c → ⊥) → q ≡ empty verdict.Count → says q ≡ fromCount word (fields s)
-  count-not q x eq = rw (eq, ne-eqb (length (fields s)) (fieldCount word (letterIn (fields s))) (λ y. x (en ∙ y ∙ sym there)))
+      pub numbers-not : (n ≡ expected → ⊥) → q ≡ empty verdict.Count → says q ≡ fromCount word (fields s)
+      numbers-not x eq =
+          let h : hasFields word (fields s) ≡ false = rw (← there) (ne-eqb (length (fields s)) expected (λ y. x (en ∙ y))) in
+          rw (eq, h)
 
 -- question 3
 lettered-is : (word : Word) (fs : List (List ℕ)) → hasLetter (callFrom word fs) ≡ isLettered word (letterIn fs)

@@ -4,10 +4,9 @@ use mathlib.Core.Bool.{true}
 use mathlib.Core.Path.{_≡_}
 use mathlib.Core.List.{List}
 use Prim.Native.Nat.{ℕ}
-use lib.ListN.{length}
 use Rattle.model.specs.Basics.{if_then_else_}
 use Rattle.model.specs.Field.{fields, letterIn}
-use Rattle.model.specs.Record.{Word, fieldCount, callFrom}
+use Rattle.model.specs.Record.{Word, callFrom}
 use Rattle.model.specs.Question.{hasWord, hasLetter, hasFields, isWellWritten}
 use Rattle.record.specs.Request.{Read, refusedAt}
 use Rattle.record.specs.Limits.{judged}
@@ -28,10 +27,3 @@ fromWord word fs = if hasWord word then fromLetter word fs else refusedAt 2
 pub record Lettered (line : List ℕ) (word : Word) (letter : ℕ) : Type 0 where
   pub known : hasWord word ≡ true
   pub second : letter ≡ letterIn (fields line)
-
--- and as many fields as there should be
-pub record Counted (line : List ℕ) (word : Word) (letter count : ℕ) : Type 0 where
-  pub known : hasWord word ≡ true
-  pub second : letter ≡ letterIn (fields line)
-  pub total : count ≡ length (fields line)
-  pub right : count ≡ fieldCount word letter

@@ -2,12 +2,12 @@
 ghost use mathlib.Core.Path.{_≡_};
 ghost use Prim.Native.Nat.{ℕ, _+_, _*_, _≤_, _<_};
 ghost use lib.ListN.{take, getD};
-ghost use Rattle.record.specs.Number.{most, whole};
-ghost use Rattle.record.specs.Column.{each, sizeAt, paidAt};
+ghost use Rattle.field.specs.Number.{most};
+ghost use Rattle.record.specs.Column.{each, whole, sizeAt, paidAt};
 
 // "RATE, year, sixty rates"
-pub fn months(sizes: [u64; 62]) -> [u64; 60]
-    ensures { λ r. ⌜ r ≡ each (sizeAt sizes) 60 1 2 ⌝ }
+pub fn months(sizes: &[u64; 62]) -> [u64; 60]
+    ensures { λ r. ⌜ r ≡ each (sizeAt (now (sizes .entry))) 60 1 2 ⌝ }
 {
     let mut list = [0u64; 60];
     let mut i = 0;
@@ -20,9 +20,9 @@ pub fn months(sizes: [u64; 62]) -> [u64; 60]
 }
 
 // "paid and incurred an age": those of n ages from a place on.
-pub fn by_age(sizes: [u64; 62], place: usize, n: usize) -> [u64; 10]
+pub fn by_age(sizes: &[u64; 62], place: usize, n: usize) -> [u64; 10]
     requires { ⌜ (place ≤ 4) × (n ≤ 10) ⌝ }
-    ensures { λ r. ⌜ take n r ≡ each (sizeAt sizes) n 2 place ⌝ }
+    ensures { λ r. ⌜ take n r ≡ each (sizeAt (now (sizes .entry))) n 2 place ⌝ }
 {
     let mut list = [0u64; 10];
     let mut i = 0;
@@ -35,9 +35,9 @@ pub fn by_age(sizes: [u64; 62], place: usize, n: usize) -> [u64; 10]
 }
 
 // "paid, unpaid, tabular for each age, prior row last": those of n rows from a place on.
-pub fn by_row(sizes: [u64; 62], place: usize, n: usize) -> [u64; 11]
+pub fn by_row(sizes: &[u64; 62], place: usize, n: usize) -> [u64; 11]
     requires { ⌜ (place ≤ 5) × (n ≤ 11) ⌝ }
-    ensures { λ r. ⌜ take n r ≡ each (sizeAt sizes) n 3 place ⌝ }
+    ensures { λ r. ⌜ take n r ≡ each (sizeAt (now (sizes .entry))) n 3 place ⌝ }
 {
     let mut list = [0u64; 11];
     let mut i = 0;
@@ -62,9 +62,9 @@ pub fn paid_of(minus: bool, size: u64) -> i64
 }
 
 // The paid of n rows.
-pub fn payments(minus: [bool; 62], sizes: [u64; 62], n: usize) -> [i64; 11]
-    requires { ⌜ (n ≤ 11) × ((i : ℕ) → i < n → getD sizes (3 + i * 3) 0 ≤ most) ⌝ }
-    ensures { λ r. ⌜ take n r ≡ each (paidAt minus sizes) n 3 3 ⌝ }
+pub fn payments(minus: &[bool; 62], sizes: &[u64; 62], n: usize) -> [i64; 11]
+    requires { ⌜ (n ≤ 11) × ((i : ℕ) → i < n → getD (now sizes) (3 + i * 3) 0 ≤ most) ⌝ }
+    ensures { λ r. ⌜ take n r ≡ each (paidAt (now (minus .entry)) (now (sizes .entry))) n 3 3 ⌝ }
 {
     let mut list = [0i64; 11];
     let mut i = 0;

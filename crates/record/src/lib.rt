@@ -1,11 +1,6 @@
 // A record read: the request that a line makes, or the first of questions 1 to 6 that is answered no. `read` is the way in.
 mod column;
-mod field;
-mod form;
 mod gather;
-mod letter;
 mod limits;
-mod number;
 pub mod read;
 pub mod request;
-mod word;

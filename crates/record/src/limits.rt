@@ -6,7 +6,7 @@ use crate::column::payments;
 use crate::request::Request;
 use crate::request::Verdict;
 use crate::request::refused;
-use crate::word::Word;
+use field::word::Word;
 use kinds::amount::Amount;
 use kinds::letter::ages;
 use kinds::opening::is_opening;
@@ -19,7 +19,7 @@ ghost use mathlib.Core.List.{[]};
 ghost use Rattle.model.specs.Basics.{all};
 ghost use Rattle.model.specs.Kind.{isAmount};
 ghost use Rattle.model.specs.Record.{LINE, RATE, PATT, YEAR};
-ghost use Rattle.record.specs.Word.{named};
+ghost use Rattle.field.specs.Word.{named};
 ghost use Rattle.record.specs.Request.{says};
 ghost use Rattle.record.specs.Limits.{judged, callOf, Low, Judgeable};
 
@@ -34,8 +34,8 @@ pub fn are_amounts(a: &[u64], b: &[u64]) -> bool
 }
 
 // "LINE, letter, opening"
-pub fn declare(letter: u8, sizes: [u64; 62]) -> Request
-    ensures { λ r. ⌜ says r ≡ judged (callOf LINE letter [] sizes) ⌝ }
+pub fn declare(letter: u8, sizes: &[u64; 62]) -> Request
+    ensures { λ r. ⌜ says r ≡ judged (callOf LINE letter [] (now (sizes .entry))) ⌝ }
 {
     let opening = sizes[2];
     if is_opening(opening) {
@@ -56,8 +56,8 @@ pub fn declare(letter: u8, sizes: [u64; 62]) -> Request
 }
 
 // "RATE, year, sixty rates"
-pub fn set_rate(sizes: [u64; 62]) -> Request
-    ensures { λ r. ⌜ says r ≡ judged (callOf RATE 0 [] sizes) ⌝ }
+pub fn set_rate(sizes: &[u64; 62]) -> Request
+    ensures { λ r. ⌜ says r ≡ judged (callOf RATE 0 [] (now (sizes .entry))) ⌝ }
 {
     let year = sizes[1];
     if is_year(year) {
@@ -82,8 +82,8 @@ pub fn set_rate(sizes: [u64; 62]) -> Request
 }
 
 // "PATT, letter, year, then paid and incurred an age"
-pub fn add_pattern(letter: u8, sizes: [u64; 62]) -> Request
-    ensures { λ r. ⌜ says r ≡ judged (callOf PATT letter [] sizes) ⌝ }
+pub fn add_pattern(letter: u8, sizes: &[u64; 62]) -> Request
+    ensures { λ r. ⌜ says r ≡ judged (callOf PATT letter [] (now (sizes .entry))) ⌝ }
 {
     let year = sizes[2];
     if is_year(year) {
@@ -110,9 +110,9 @@ pub fn add_pattern(letter: u8, sizes: [u64; 62]) -> Request
 }
 
 // "YEAR, letter, year, then paid, unpaid, tabular for each age, prior row last"
-pub fn close_year(letter: u8, minus: [bool; 62], sizes: [u64; 62]) -> Request
-    requires { ⌜ Low letter sizes ⌝ }
-    ensures { λ r. ⌜ says r ≡ judged (callOf YEAR letter minus sizes) ⌝ }
+pub fn close_year(letter: u8, minus: &[bool; 62], sizes: &[u64; 62]) -> Request
+    requires { ⌜ Low letter (now sizes) ⌝ }
+    ensures { λ r. ⌜ says r ≡ judged (callOf YEAR letter (now (minus .entry)) (now (sizes .entry))) ⌝ }
 {
     let year = sizes[2];
     if is_year(year) {
@@ -143,9 +143,9 @@ pub fn close_year(letter: u8, minus: [bool; 62], sizes: [u64; 62]) -> Request
 }
 
 // Question 6, and the call.
-pub fn judge(word: Word, letter: u8, minus: [bool; 62], sizes: [u64; 62]) -> Request
-    requires { ⌜ Judgeable (named word) letter sizes ⌝ }
-    ensures { λ r. ⌜ says r ≡ judged (callOf (named word) letter minus sizes) ⌝ }
+pub fn judge<'a>(word: Word, letter: u8, minus: &'a [bool; 62], sizes: &'a [u64; 62]) -> Request
+    requires { ⌜ Judgeable (named word) letter (now sizes) ⌝ }
+    ensures { λ r. ⌜ says r ≡ judged (callOf (named word) letter (now (minus .entry)) (now (sizes .entry))) ⌝ }
 {
     match word {
         Word::Line => declare(letter, sizes),

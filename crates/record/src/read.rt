@@ -1,50 +1,40 @@
 // "Questions put to a record, in this order": 1 to 6, a function each.
-use crate::field::count;
-use crate::field::first;
-use crate::form::field_count;
-use crate::form::first_number;
 use crate::gather::gather;
-use crate::letter::is_lettered;
-use crate::letter::letter_of;
 use crate::limits::judge;
 use crate::request::Request;
 use crate::request::Verdict;
 use crate::request::refused;
-use crate::word::Word;
-use crate::word::is_word;
-use crate::word::word_of;
+use field::field::count;
+use field::field::first;
+use field::form::field_count;
+use field::form::first_number;
+use field::letter::is_lettered;
+use field::letter::letter_of;
+use field::word::Word;
+use field::word::is_word;
+use field::word::word_of;
 ghost use mathlib.Core.Path.{_≡_};
 ghost use mathlib.Core.Bool.{true};
 ghost use Rattle.model.specs.Field.{fields};
 ghost use Rattle.model.specs.Question.{hasWord};
-ghost use Rattle.record.specs.Word.{named};
+ghost use Rattle.field.specs.Word.{named};
 ghost use Rattle.record.specs.Request.{says, readOf};
-ghost use Rattle.record.specs.Read.{fromWord, fromLetter, fromCount, fromWriting, Lettered, Counted};
+ghost use Rattle.record.specs.Read.{fromWord, fromLetter, fromCount, Lettered};
 
-// "5. Is every number well written?", and 6.
-fn ask_writing(line: &[u8], word: Word, letter: u8, count: usize) -> Request
-    requires { ⌜ Counted (now line) (named word) letter count ⌝ }
-    ensures { λ r. ⌜ says r ≡ fromWriting (named word) (fields (now (line .entry))) ⌝ }
-{
-    let place = first_number(word);
-    let numbers = gather(line, word, place, count);
-    let right = numbers.right;
-    let minus = numbers.minus;
-    let sizes = numbers.sizes;
-    if right {
-        return judge(word, letter, minus, sizes);
-    }
-    refused(Verdict::Writing)
-}
-
-// "4. Is the count of fields right?", and on.
-fn ask_count(line: &[u8], word: Word, letter: u8) -> Request
+// "4. Is the count of fields right?", "5. Is every number well written?", and 6.
+fn ask_numbers(line: &[u8], word: Word, letter: u8) -> Request
     requires { ⌜ Lettered (now line) (named word) letter ⌝ }
     ensures { λ r. ⌜ says r ≡ fromCount (named word) (fields (now (line .entry))) ⌝ }
 {
-    let n = count(line);
-    if n == field_count(word, letter) {
-        return ask_writing(line, word, letter, n);
+    let expected = field_count(word, letter);
+    let place = first_number(word);
+    let numbers = gather(line, word, place, expected);
+    let right = numbers.right;
+    if right {
+        return judge(word, letter, &numbers.minus, &numbers.sizes);
+    }
+    if count(line) == expected {
+        return refused(Verdict::Writing);
     }
     refused(Verdict::Count)
 }
@@ -56,7 +46,7 @@ fn ask_letter(line: &[u8], word: Word) -> Request
 {
     let letter = letter_of(line);
     if is_lettered(word, letter) {
-        return ask_count(line, word, letter);
+        return ask_numbers(line, word, letter);
     }
     refused(Verdict::Letter)
 }

@@ -8,10 +8,10 @@ use Rattle.record.proofs.column.by_row.Statement.{statement}
 use Rattle.record.proofs.column.by_row.Tie as tie
 
 abbrev Inv-loop : tie.InvT-loop
-Inv-loop place n sizes list₀ i₀ list i = Taking (sizeAt sizes) 3 place n 11 list i
+Inv-loop sizes place n list₀ i₀ list i = Taking (sizeAt sizes) 3 place n 11 list i
 
 abbrev μ-loop : tie.MeasureT-loop
-μ-loop place n sizes list₀ i₀ list i = n - i
+μ-loop sizes place n list₀ i₀ list i = n - i
 
 loop-holds : tie.Need-loop-holds Inv-loop μ-loop
 loop-holds c = take-start _ _ _ _ _ _ (c .pre .1) refl
@@ -25,8 +25,8 @@ add-at c = omega arith
 mul-list : tie.Need-mul-list Inv-loop μ-loop
 mul-list c = omega arith
 
-array-read-list : tie.Need-array-read-list Inv-loop μ-loop
-array-read-list c = omega arith
+element-copy-out-list : tie.Need-element-copy-out-list Inv-loop μ-loop
+element-copy-out-list c = omega arith
 
 mul-list-2 : tie.Need-mul-list-2 Inv-loop μ-loop
 mul-list-2 c = omega arith
@@ -56,7 +56,7 @@ by-row-spec =
     mul-at
     add-at
     mul-list
-    array-read-list
+    element-copy-out-list
     mul-list-2
     array-write-list
     add-i

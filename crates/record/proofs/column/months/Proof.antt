@@ -22,8 +22,8 @@ add-at c = omega arith
 mul-list : tie.Need-mul-list Inv-loop μ-loop
 mul-list c = omega arith
 
-array-read-list : tie.Need-array-read-list Inv-loop μ-loop
-array-read-list c = omega arith
+element-copy-out-list : tie.Need-element-copy-out-list Inv-loop μ-loop
+element-copy-out-list c = omega arith
 
 mul-list-2 : tie.Need-mul-list-2 Inv-loop μ-loop
 mul-list-2 c = omega arith
@@ -52,7 +52,7 @@ months-spec =
     loop-holds
     add-at
     mul-list
-    array-read-list
+    element-copy-out-list
     mul-list-2
     array-write-list
     add-i

@@ -7,10 +7,10 @@ use Rattle.record.proofs.column.payments.Statement.{statement}
 use Rattle.record.proofs.column.payments.Tie as tie
 
 abbrev Inv-loop : tie.InvT-loop
-Inv-loop n minus sizes list₀ i₀ list i = Paying n minus sizes list i
+Inv-loop minus sizes n list₀ i₀ list i = Paying n minus sizes list i
 
 abbrev μ-loop : tie.MeasureT-loop
-μ-loop n minus sizes list₀ i₀ list i = n - i
+μ-loop minus sizes n list₀ i₀ list i = n - i
 
 loop-holds : tie.Need-loop-holds Inv-loop μ-loop
 loop-holds c = pay-start _ _ _ _ (c .pre) refl
@@ -21,14 +21,14 @@ mul-at c = omega arith
 add-at : tie.Need-add-at Inv-loop μ-loop
 add-at c = omega arith
 
-array-read-paid-of : tie.Need-array-read-paid-of Inv-loop μ-loop
-array-read-paid-of c = omega arith
+element-copy-out-paid-of : tie.Need-element-copy-out-paid-of Inv-loop μ-loop
+element-copy-out-paid-of c = omega arith
 
 mul-paid-of : tie.Need-mul-paid-of Inv-loop μ-loop
 mul-paid-of c = omega arith
 
-array-read-paid-of-2 : tie.Need-array-read-paid-of-2 Inv-loop μ-loop
-array-read-paid-of-2 c = omega arith
+element-copy-out-paid-of-2 : tie.Need-element-copy-out-paid-of-2 Inv-loop μ-loop
+element-copy-out-paid-of-2 c = omega arith
 
 paid-of-requires : tie.Need-paid-of-requires Inv-loop μ-loop
 paid-of-requires c κs = search pay-asks
@@ -60,9 +60,9 @@ payments-spec =
     loop-holds
     mul-at
     add-at
-    array-read-paid-of
+    element-copy-out-paid-of
     mul-paid-of
-    array-read-paid-of-2
+    element-copy-out-paid-of-2
     paid-of-requires
     mul-list
     array-set-from-list

@@ -2,53 +2,40 @@
 use Prim.Native.Nat.{_-_}
 use native.Mathlib.Omega.{arith}
 use borrow.Author.Needs.{needs}
-use Rattle.record.specs.Word.{named}
-use Rattle.record.proofs.Fields.{ends}
-use Rattle.record.proofs.Gathers.{Gathering, gather-start, gather-in, gather-end, gather-ill, gather-on}
+use Rattle.field.specs.Word.{named}
+use Rattle.record.proofs.Gathers.{number-ends, Gathering, gather-start, gather-none, gather-ill, gather-on, gather-end}
 use Rattle.record.proofs.gather.gather.Statement.{statement}
 use Rattle.record.proofs.gather.gather.Tie as tie
 
 abbrev Inv-loop : tie.InvT-loop
-Inv-loop line word place count minus₀ sizes₀ at₀ k₀ minus sizes at k = Gathering line (named word) place count at k minus sizes
+Inv-loop line word place expected minus₀ sizes₀ at₀ k₀ minus sizes at k = Gathering line (named word) place expected at k minus sizes
 
 abbrev μ-loop : tie.MeasureT-loop
-μ-loop line word place count minus₀ sizes₀ at₀ k₀ minus sizes at k = count - k
+μ-loop line word place expected minus₀ sizes₀ at₀ k₀ minus sizes at k = expected - k
 
 start-requires : tie.Need-start-requires Inv-loop μ-loop
-start-requires c κs = omega arith
+start-requires c κs = search needs
 
 loop-holds : tie.Need-loop-holds Inv-loop μ-loop
 loop-holds c = search gather-start
 
-sub-first : tie.Need-sub-first Inv-loop μ-loop
-sub-first c = search gather-in
+returns : tie.Need-returns Inv-loop μ-loop
+returns c = search gather-none
 
-part-first-start : tie.Need-part-first-start Inv-loop μ-loop
-part-first-start c = search gather-in
+sub-signed : tie.Need-sub-signed Inv-loop μ-loop
+sub-signed c = omega arith
 
-part-first-end : tie.Need-part-first-end Inv-loop μ-loop
-part-first-end c = search needs
+part-signed-start : tie.Need-part-signed-start Inv-loop μ-loop
+part-signed-start c = omega arith
 
-first-requires : tie.Need-first-requires Inv-loop μ-loop
-first-requires c κs = search needs
+part-signed-end : tie.Need-part-signed-end Inv-loop μ-loop
+part-signed-end c = omega arith
 
 may-fall-requires : tie.Need-may-fall-requires Inv-loop μ-loop
 may-fall-requires c κs = search needs
 
 signed-requires : tie.Need-signed-requires Inv-loop μ-loop
 signed-requires c κs = search needs
-
-enum-known-number : tie.Need-enum-known-number Inv-loop μ-loop
-enum-known-number c = search needs
-
-enum-told : tie.Need-enum-told Inv-loop μ-loop
-enum-told c = search needs
-
-returns : tie.Need-returns Inv-loop μ-loop
-returns c = search gather-ill
-
-has-minus-requires : tie.Need-has-minus-requires Inv-loop μ-loop
-has-minus-requires c κs = search needs
 
 array-write-minus : tie.Need-array-write-minus Inv-loop μ-loop
 array-write-minus c = omega arith
@@ -61,15 +48,19 @@ array-write-sizes c = omega arith
 
 add-at : tie.Need-add-at Inv-loop μ-loop
 add-at c =
-    let f = c .before .before .before .before .before .before in
-    let z = f .before .before .before in
-    omega (arith, ends (z .before .before .before .args .line .now) (z .loop .at) (f .first .result .now) (z .loop .inv .here (f .before .before .loop-test .taken) .inside) (f .first .ensures))
+    let test = c .before in
+    let number = test .before in
+    let inside = number .before .before .before in
+    let z = inside .before .before in
+    omega (arith, number-ends (z .before .before .before .args .line .now) (z .loop .at) (inside .if1 .left) (number .before .may-fall .result) (number .signed .result) (number .signed .ensures) (test .if2 .taken))
 
 add-at-2 : tie.Need-add-at-2 Inv-loop μ-loop
 add-at-2 c =
-    let f = c .before .before .before .before .before .before in
-    let z = f .before .before .before in
-    omega (arith, ends (z .before .before .before .args .line .now) (z .loop .at) (f .first .result .now) (z .loop .inv .here (f .before .before .loop-test .taken) .inside) (f .first .ensures))
+    let test = c .before in
+    let number = test .before in
+    let inside = number .before .before .before in
+    let z = inside .before .before in
+    omega (arith, number-ends (z .before .before .before .args .line .now) (z .loop .at) (inside .if1 .left) (number .before .may-fall .result) (number .signed .result) (number .signed .ensures) (test .if2 .taken))
 
 add-k : tie.Need-add-k Inv-loop μ-loop
 add-k c = omega arith
@@ -81,7 +72,10 @@ loop-again : tie.Need-loop-again Inv-loop μ-loop
 loop-again c = search gather-on
 
 returns-2 : tie.Need-returns-2 Inv-loop μ-loop
-returns-2 c = search gather-end
+returns-2 c = search gather-ill
+
+returns-3 : tie.Need-returns-3 Inv-loop μ-loop
+returns-3 c = search gather-end
 
 pub gather-spec : {M : Type 1} → statement M
 gather-spec =
@@ -91,16 +85,12 @@ gather-spec =
     μ-loop
     start-requires
     loop-holds
-    sub-first
-    part-first-start
-    part-first-end
-    first-requires
+    returns
+    sub-signed
+    part-signed-start
+    part-signed-end
     may-fall-requires
     signed-requires
-    enum-known-number
-    enum-told
-    returns
-    has-minus-requires
     array-write-minus
     mul-sizes
     array-write-sizes
@@ -109,4 +99,5 @@ gather-spec =
     add-k
     loop-less
     loop-again
-    returns-2)
+    returns-2
+    returns-3)

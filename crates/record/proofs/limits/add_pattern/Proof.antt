@@ -4,8 +4,8 @@ use Rattle.record.proofs.Judged.{ages-in, ages-taken, ages-fit, pattern
 use Rattle.record.proofs.limits.add_pattern.Statement.{statement}
 use Rattle.record.proofs.limits.add_pattern.Tie as tie
 
-array-read-year : tie.Need-array-read-year
-array-read-year c = search needs
+element-copy-out-year : tie.Need-element-copy-out-year
+element-copy-out-year c = search needs
 
 is-year-requires : tie.Need-is-year-requires
 is-year-requires c κs = search needs
@@ -53,7 +53,7 @@ pub add-pattern-spec : {M : Type 1} → statement M
 add-pattern-spec =
     tie.close
     (tie.spec
-    array-read-year
+    element-copy-out-year
     is-year-requires
     ages-requires
     by-age-requires

@@ -6,8 +6,8 @@ use Rattle.record.proofs.Judged.{rows-in, rows-taken, rows-fit, low-fit
 use Rattle.record.proofs.limits.close_year.Statement.{statement}
 use Rattle.record.proofs.limits.close_year.Tie as tie
 
-array-read-year : tie.Need-array-read-year
-array-read-year c = search needs
+element-copy-out-year : tie.Need-element-copy-out-year
+element-copy-out-year c = search needs
 
 is-year-requires : tie.Need-is-year-requires
 is-year-requires c κs = search needs
@@ -16,12 +16,12 @@ ages-requires : tie.Need-ages-requires
 ages-requires c κs = search needs
 
 add-n : tie.Need-add-n
-add-n c = omega (arith, ages-small (c .before .before .before .args .letter))
+add-n c = omega (arith, ages-small (c .before .before .before .before .args .letter))
 
 payments-requires : tie.Need-payments-requires
 payments-requires c κs =
-    let a = c .before .before .before in
-    low-fit (a .args .letter) (c .ages .result) (a .args .t3) (c .ages .ensures) (a .pre)
+    let a = c .before .before .before .before in
+    low-fit (a .args .letter) (c .ages .result) (a .args .sizes .now) (c .ages .ensures) (a .pre)
 
 by-row-requires : tie.Need-by-row-requires
 by-row-requires c κs = search (rows-fit, needs)
@@ -63,8 +63,8 @@ returns c =
     let paid = unpaid .before in
     let ages = paid .before in
     let year = ages .before .before in
-    let given = year .before .args in
-    close-is (given .letter) (given .minus) (given .t3) (year .is-year .result) (year .is-year .ensures) (ages .before .if1 .taken) (ages .ages .result) (ages .ages .ensures)
+    let given = year .before .before .args in
+    close-is (given .letter) (given .minus .now) (given .sizes .now) (year .is-year .result) (year .is-year .ensures) (ages .before .if1 .taken) (ages .ages .result) (ages .ages .ensures)
     (paid .payments .result) (paid .payments .ensures) (paids .all .result) (paids .all .ensures) (test .if2 .taken)
     (unpaid .by-row .result) (tabular .by-row2 .result) (unpaid .by-row .ensures) (tabular .by-row2 .ensures) (amounts .are-amounts .result) (amounts .are-amounts .ensures) (c .if3 .taken)
 
@@ -90,7 +90,7 @@ pub close-year-spec : {M : Type 1} → statement M
 close-year-spec =
     tie.close
     (tie.spec
-    array-read-year
+    element-copy-out-year
     is-year-requires
     ages-requires
     add-n

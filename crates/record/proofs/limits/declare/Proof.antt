@@ -4,8 +4,8 @@ use Rattle.record.proofs.Judged.{declare-is, declare-not}
 use Rattle.record.proofs.limits.declare.Statement.{statement}
 use Rattle.record.proofs.limits.declare.Tie as tie
 
-array-read-opening : tie.Need-array-read-opening
-array-read-opening c = search needs
+element-copy-out-opening : tie.Need-element-copy-out-opening
+element-copy-out-opening c = search needs
 
 is-opening-requires : tie.Need-is-opening-requires
 is-opening-requires c κs = search needs
@@ -21,4 +21,5 @@ returns-2 c = search declare-not
 
 pub declare-spec : {M : Type 1} → statement M
 declare-spec =
-    tie.close (tie.spec array-read-opening is-opening-requires returns refused-requires returns-2)
+    tie.close
+    (tie.spec element-copy-out-opening is-opening-requires returns refused-requires returns-2)

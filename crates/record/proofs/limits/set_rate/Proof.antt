@@ -4,8 +4,8 @@ use Rattle.record.proofs.Judged.{rate-not-year, rate-is, rate-not}
 use Rattle.record.proofs.limits.set_rate.Statement.{statement}
 use Rattle.record.proofs.limits.set_rate.Tie as tie
 
-array-read-year : tie.Need-array-read-year
-array-read-year c = search needs
+element-copy-out-year : tie.Need-element-copy-out-year
+element-copy-out-year c = search needs
 
 is-year-requires : tie.Need-is-year-requires
 is-year-requires c κs = search needs
@@ -38,7 +38,7 @@ pub set-rate-spec : {M : Type 1} → statement M
 set-rate-spec =
     tie.close
     (tie.spec
-    array-read-year
+    element-copy-out-year
     is-year-requires
     months-requires
     slice-aggregate-all

@@ -10,8 +10,8 @@ letter-of-requires c κs = search needs
 is-lettered-requires : tie.Need-is-lettered-requires
 is-lettered-requires c κs = search needs
 
-ask-count-requires : tie.Need-ask-count-requires
-ask-count-requires c κs = search letter-asks
+ask-numbers-requires : tie.Need-ask-numbers-requires
+ask-numbers-requires c κs = search letter-asks
 
 returns : tie.Need-returns
 returns c = search letter-is
@@ -28,7 +28,7 @@ ask-letter-spec =
     (tie.spec
     letter-of-requires
     is-lettered-requires
-    ask-count-requires
+    ask-numbers-requires
     returns
     refused-requires
     returns-2)

@@ -1,0 +1,3 @@
+pub mod Number
+pub mod Place
+pub mod Word

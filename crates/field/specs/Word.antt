@@ -1,0 +1,23 @@
+-- The code's words as the model's, and the letter that each asks.
+-- Assumes nothing: these are definitions.
+use mathlib.Core.Bool.{Bool, true, false}
+use Prim.Native.Nat.{ℕ}
+use Rattle.model.specs.Letter.{covered}
+use Rattle.model.specs.Record as model
+use Rattle.field.specs.declared.word.Word.{Word}
+use Rattle.field.specs.declared.word.Word.the-variants.{Line, Rate, Patt, Year, Other}
+
+abbrev pub named : Word → model.Word
+named Line = model.LINE
+named Rate = model.RATE
+named Patt = model.PATT
+named Year = model.YEAR
+named Other = model.OTHER
+
+-- "But for RATE: is the second field a covered letter?"
+abbrev pub isLettered : model.Word → ℕ → Bool
+isLettered model.LINE letter = covered letter
+isLettered model.RATE letter = true
+isLettered model.PATT letter = covered letter
+isLettered model.YEAR letter = covered letter
+isLettered model.OTHER letter = false

@@ -1,0 +1,51 @@
+// "Fields are parted by one tab. Each field is a part of the line, read from where the last one ended, and a field is handed back as that part of the line itself."
+ghost use mathlib.Core.Path.{_≡_};
+ghost use lib.ListN.{length};
+ghost use Rattle.model.specs.Field.{fields, field};
+ghost use Rattle.field.specs.Place.{Starts};
+
+// The field at the front of the rest of a line.
+pub fn first(rest: &[u8]) -> &[u8]
+    ensures { λ r. ⌜ now r ≡ field 0 (fields (now (rest .entry))) ⌝ }
+{
+    let mut i = 0;
+    while i < rest.len() {
+        if rest[i] == b'\t' {
+            return &rest[..i];
+        }
+        i += 1;
+    }
+    rest
+}
+
+// How many fields the line has.
+pub fn count(line: &[u8]) -> usize
+    ensures { λ r. ⌜ r ≡ length (fields (now (line .entry))) ⌝ }
+{
+    let mut n: usize = 1;
+    let mut i = 0;
+    while i < line.len() {
+        if line[i] == b'\t' {
+            n += 1;
+        }
+        i += 1;
+    }
+    n
+}
+
+// Where the field at place `place` begins; past the line's end where there is none.
+pub fn start(line: &[u8], place: usize) -> usize
+    ensures { λ r. ⌜ Starts (now (line .entry)) place r ⌝ }
+{
+    let mut at = 0;
+    let mut k = 0;
+    while k < place {
+        if at > line.len() {
+            return at;
+        }
+        let f = first(&line[at..]);
+        at = at + f.len() + 1;
+        k += 1;
+    }
+    at
+}
