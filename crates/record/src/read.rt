@@ -1,4 +1,4 @@
-// "Questions put to a record, in this order": 1 to 6, a function each.
+// "Questions put to a record, in this order": 1 to 6, each function with the rest of them.
 use crate::gather::gather;
 use crate::limits::judge;
 use crate::request::Request;
