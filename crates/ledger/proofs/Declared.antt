@@ -36,8 +36,8 @@ new-line slots letter opening o =
 module _ (book : Book) (letter opening : ℕ) (sound : Sound (declare letter opening)) (line : Line) (here : line ≡ lineAt book letter) (r : Outcome) where
   first-is : (slots : List ℕ) (t : Bool) → line .declared ≡ t → firstNo (bookQuestions (view book slots) (declare letter opening)) ≡ (if t then some 7 else none)
   unfolding bookQuestions
-  first-is slots true d = rw (declared-is book slots letter line (sound .letter) here, d)
-  first-is slots false d = rw (declared-is book slots letter line (sound .letter) here, d)
+  first-is slots true d = rw (declared-is book slots letter line here, d)
+  first-is slots false d = rw (declared-is book slots letter line here, d)
 
   pub given-refused : line .declared ≡ true → r ≡ refusedOf book refusal.Given → SettledAnyhow book (declare letter opening) r
   given-refused d er slots = refused book refusal.Given (firstNo (bookQuestions (view book slots) (declare letter opening))) (declare letter opening) slots r (first-is slots true d) er

@@ -1,10 +1,8 @@
 pub mod Declared
-pub mod Maps
 pub mod PatternAdded
 pub mod PatternAsked
 pub mod Publishing
 pub mod RateSet
-pub mod Reading
 pub mod RowLoops
 pub mod RowPatterns
 pub mod Settling

@@ -64,7 +64,7 @@ module _ (book : Book) (line : Line) (letter year rate : ℕ) (paid incurred : L
               lines-put (book .lines) slots (written slots (slotOf letter year) ((kept ++ replicate (10 - ages letter) 0) ++ (prior ∷ []))) letter (withPatternOf letter line year) (pre .sound .letter) lines (beside slots letter year rate pay (pre .sound .letter) places count),
               pattern-kept slots letter year rate pay (pre .sound .letter) places count line is-year (next-year letter line year (pre .turn)),
               pre .rated,
-              line-is book slots letter (pre .sound .letter),
+              line-is book slots letter,
               ← (pre .here),
             );
         lent = rw (pre .rated) (ap (written slots (slotOf letter year)) (numbers-are letter year rate pay));

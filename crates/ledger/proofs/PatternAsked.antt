@@ -24,10 +24,9 @@ use Rattle.state.specs.declared.book.Book.{Book}
 use Rattle.state.specs.declared.book.Line.{Line}
 use Rattle.ledger.specs.declared.answer.Refusal.the-variants as refusal
 use Rattle.ledger.specs.declared.answer.Outcome.{Outcome}
-use Rattle.ledger.specs.declared.rates.YearRate.{YearRate}
-use Rattle.ledger.specs.declared.rates.YearRate.the-variants as year-rate
-use Rattle.state.specs.Rates.{ratesOf}
-use Rattle.ledger.specs.YearRate.{yearRate}
+use Rattle.state.specs.declared.rates.YearRate.{YearRate}
+use Rattle.state.specs.declared.rates.YearRate.the-variants as year-rate
+use Rattle.state.specs.Rates.{ratesOf, yearRate}
 use Rattle.state.specs.Lines.{lineAt}
 use Rattle.state.specs.View.{view}
 use Rattle.ledger.specs.Answer.{refusedOf}
@@ -54,7 +53,7 @@ module _ (book : Book) (letter year : ℕ) (paid incurred : List ℕ) (sound : S
   first-is : (slots : List ℕ) → firstNo (bookQuestions (view book slots) call)
       ≡ (if line .declared then (if given (ratesOf (book .rates) year) then (if followsLast letter line year then (if hasIncurred call then (if climbs call then none else some 12) else some 11) else some 10) else some 9) else some 8)
   unfolding bookQuestions
-  first-is slots = rw (declared-is book slots letter line (sound .letter) here, line-is book slots letter (sound .letter), ← here, follows-is slots letter line year)
+  first-is slots = rw (declared-is book slots letter line here, line-is book slots letter, ← here, follows-is slots letter line year)
 
   module _ (slots : List ℕ) (r : Outcome) where
     pub undeclared : line .declared ≡ false → r ≡ refusedOf book refusal.Declared → Settled (view book slots) call slots r slots

@@ -8,7 +8,7 @@ use lib.ListN.{length, take, getD, set, replicate, length-map}
 use lib.Seq.{set-at}
 use Rattle.model.specs.Published.{published}
 use Rattle.state.proofs.KeptPatterns.{padded, eleven, factors-of, composite-of}
-use Rattle.ledger.proofs.Maps.{Mapped, map-start, map-on, map-end}
+use Rattle.state.proofs.Maps.{Mapped, map-start, map-on, map-end}
 
 -- the factors before place i are published
 pub record Publishing (factors list : List ℕ) (i : ℕ) : Type 0 where

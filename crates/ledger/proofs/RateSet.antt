@@ -26,10 +26,9 @@ use Rattle.state.specs.declared.book.Book.{Book}
 use Rattle.ledger.specs.declared.answer.Refusal.the-variants as refusal
 use Rattle.ledger.specs.declared.answer.Answer.the-variants as answer
 use Rattle.ledger.specs.declared.answer.Outcome.{Outcome}
-use Rattle.ledger.specs.declared.rates.YearRate.{YearRate}
-use Rattle.ledger.specs.declared.rates.YearRate.the-variants as year-rate
-use Rattle.state.specs.Rates.{ratesOf, withRateOf}
-use Rattle.ledger.specs.YearRate.{yearRate}
+use Rattle.state.specs.declared.rates.YearRate.{YearRate}
+use Rattle.state.specs.declared.rates.YearRate.the-variants as year-rate
+use Rattle.state.specs.Rates.{ratesOf, yearRate, withRateOf}
 use Rattle.state.specs.View.{view}
 use Rattle.ledger.specs.Answer.{nothing, refusedOf, acceptedOf}
 use Rattle.ledger.specs.Does.{slotsAfter, SettledAnyhow, DoesAnyhow}
@@ -100,7 +99,7 @@ module _ (year : ℕ) (months : List ℕ) (m : Mean) (em : m ≡ meanOf months) 
       limits-refused book (setRate year months) r true refl refl sixty refl (t .0) (isWithinLimits (setRate year months)) refl (and-false (isYear year) rates (t .1)) er
 
 -- question 7
-pub set-year : (year rate : ℕ) (months : List ℕ) → Averaged year rate months → isYear year ≡ true
+set-year : (year rate : ℕ) (months : List ℕ) → Averaged year rate months → isYear year ≡ true
 set-year year rate months pre = and-left (isYear year) (all isRate months) (pre .sound .limits)
 
 module _ (book : Book) (year : ℕ) (rate : Rate) (months : List ℕ) (pre : Averaged year (rateNumber rate) months) (before : YearRate) (eb : yearRate before ≡ ratesOf (book .rates) year) (r : Outcome) where

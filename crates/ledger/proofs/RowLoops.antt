@@ -16,7 +16,7 @@ use Rattle.model.specs.Letter.{ages}
 use Rattle.model.proofs.Ages.{ages-small}
 use Rattle.reserve.specs.Lists.{statedRows}
 use Rattle.state.specs.declared.book.Line.{Line}
-use Rattle.state.specs.Patterns.{slotOf, slotAt, factorIn, keptCount}
+use Rattle.state.specs.Patterns.{factorAt, keptCount}
 use Rattle.ledger.specs.Rows.{Paired, havePatterns, rowFactorOf, FactorsOf}
 
 -- question 13, one row more, and no more rows
@@ -65,13 +65,13 @@ module _ (unpaid tabular : List ℕ) (n first k : ℕ) (a : Asked unpaid tabular
 
 -- a row's factor, by the code's counts of ages and of kept patterns
 module _ (slots : List ℕ) (letter : ℕ) (line : Line) (k n kept r : ℕ) (en : n ≡ ages letter) (ek : kept ≡ keptCount letter line) where
-  pub factor-kept : k < n → k < kept → r ≡ factorIn (getD (slotAt slots (slotOf letter (line .last - k))) k 0) → r ≡ rowFactorOf slots letter line k
+  pub factor-kept : k < n → k < kept → r ≡ factorAt slots letter (line .last - k) k → r ≡ rowFactorOf slots letter line k
   factor-kept lt lk e = rw (← en, ← ek, lt-ltb k n lt, lt-ltb k kept lk) e
 
   pub factor-missing : k < n → kept ≤ k → r ≡ 0 → r ≡ rowFactorOf slots letter line k
   factor-missing lt le e = rw (← en, ← ek, lt-ltb k n lt, le-ltb k kept le) e
 
-  pub factor-prior : n ≤ k → r ≡ factorIn (getD (slotAt slots (slotOf letter (line .last))) 10 0) → r ≡ rowFactorOf slots letter line k
+  pub factor-prior : n ≤ k → r ≡ factorAt slots letter (line .last) 10 → r ≡ rowFactorOf slots letter line k
   factor-prior le e = rw (← en, le-ltb k n le) e
 
 -- the factors before place k are written

@@ -11,7 +11,7 @@ use lib.ListN.{length, take, getD, List·getD-map}
 use lib.Seq.{drop-nil, getD-take}
 use lib.IntN.{ℤ}
 use Rattle.model.specs.Basics.{if_then_else_}
-use Rattle.model.specs.Letter.{ages}
+use Rattle.model.specs.Letter.{covered, ages}
 use Rattle.model.specs.Question.{haveKept}
 use Rattle.model.specs.Row.{rowsOf}
 use Rattle.model.specs.YearEnd.{rowFactor}
@@ -24,45 +24,48 @@ use Rattle.state.specs.View.{lineOf}
 use Rattle.state.proofs.KeptYears.{kept-year, kept-past, find-kept, find-none}
 
 -- the factor of each row
-factor-by : (slots : List ℕ) (letter : ℕ) (line : Line) (k : ℕ) (t u : Bool) → ltb k (ages letter) ≡ t → ltb k (keptCount letter line) ≡ u → 0 < keptCount letter line
+factor-by : (slots : List ℕ) (letter : ℕ) (line : Line) (k : ℕ) → covered letter ≡ true → (t u : Bool) → ltb k (ages letter) ≡ t → ltb k (keptCount letter line) ≡ u → 0 < keptCount letter line
     → rowFactorOf slots letter line k ≡ rowFactor letter (lineOf slots letter line) (line .last) k
 unfolding rowFactor lineOf
-factor-by slots letter line k true true age kept some-kept =
+factor-by slots letter line k c true true age kept some-kept =
     let slot : List ℕ = slotAt slots (slotOf letter (line .last - k)) in
     rw (
+      c,
       age,
       kept,
       find-kept slots letter (keptCount letter line) (line .last) k (ltb-true k (keptCount letter line) kept) (kept-past letter line some-kept),
       List·getD-map factorIn (take (ages letter) slot) k 0,
       getD-take (ages letter) slot k 0 (ltb-true k (ages letter) age),
     )
-factor-by slots letter line k true false age kept some-kept =
+factor-by slots letter line k c true false age kept some-kept =
     let before : k ≤ line .last = omega (arith, ltb-true k (ages letter) age, ages-small letter, kept-year letter line some-kept) in
     rw (age, kept, find-none slots letter (keptCount letter line) (line .last) k (ltb-false k (keptCount letter line) kept) before)
-factor-by slots letter line k false u age kept some-kept =
+factor-by slots letter line k c false u age kept some-kept =
     let same : line .last - 0 ≡ line .last = omega arith in
     let found = rw same at (find-kept slots letter (keptCount letter line) (line .last) 0 some-kept (kept-past letter line some-kept)) in
-    rw (age, found)
+    rw (c, age, found)
 
-pub row-factor-is : (slots : List ℕ) (letter : ℕ) (line : Line) (k : ℕ) → 0 < keptCount letter line → k < suc (ages letter)
+pub row-factor-is : (slots : List ℕ) (letter : ℕ) (line : Line) (k : ℕ) → covered letter ≡ true → 0 < keptCount letter line → k < suc (ages letter)
     → rowFactorOf slots letter line k ≡ rowFactor letter (lineOf slots letter line) (line .last) k
-row-factor-is slots letter line k some-kept lt = factor-by slots letter line k (ltb k (ages letter)) (ltb k (keptCount letter line)) refl refl some-kept
+row-factor-is slots letter line k c some-kept lt = factor-by slots letter line k c (ltb k (ages letter)) (ltb k (keptCount letter line)) refl refl some-kept
 
-small-by : (t u : Bool) (a b : ℕ) → (if t then (if u then factorIn a else 0) else factorIn b) ≤ 10000000000
-small-by true true a b = omega arith
-small-by true false a b = omega arith
-small-by false u a b = omega arith
+small-by : (c t u : Bool) (a b : ℕ) → (if t then (if u then (if c then factorIn a else 0) else 0) else (if c then factorIn b else 0)) ≤ 10000000000
+small-by true true true a b = omega arith
+small-by false true true a b = omega arith
+small-by c true false a b = omega arith
+small-by true false u a b = omega arith
+small-by false false u a b = omega arith
 
 pub row-factor-small : (slots : List ℕ) (letter : ℕ) (line : Line) (k : ℕ) → rowFactorOf slots letter line k ≤ 10000000000
 row-factor-small slots letter line k =
-    small-by (ltb k (ages letter)) (ltb k (keptCount letter line)) (getD (slotAt slots (slotOf letter (line .last - k))) k 0) (getD (slotAt slots (slotOf letter (line .last))) 10 0)
+    small-by (covered letter) (ltb k (ages letter)) (ltb k (keptCount letter line)) (getD (slotAt slots (slotOf letter (line .last - k))) k 0) (getD (slotAt slots (slotOf letter (line .last))) 10 0)
 
-pub row-factors-are : (slots : List ℕ) (letter : ℕ) (line : Line) (factors : List ℕ) → FactorsOf slots letter line factors → 0 < keptCount letter line
+pub row-factors-are : (slots : List ℕ) (letter : ℕ) (line : Line) (factors : List ℕ) → FactorsOf slots letter line factors → covered letter ≡ true → 0 < keptCount letter line
     → RowFactors letter (lineOf slots letter line) (line .last) factors (suc (ages letter))
-row-factors-are slots letter line factors f some-kept =
+row-factors-are slots letter line factors f c some-kept =
     record {
-      same = λ k lt. f .each k lt ∙ row-factor-is slots letter line k some-kept lt;
-      limit = λ k lt. rw (row-factor-is slots letter line k some-kept lt) at (row-factor-small slots letter line k);
+      same = λ k lt. f .each k lt ∙ row-factor-is slots letter line k c some-kept lt;
+      limit = λ k lt. rw (row-factor-is slots letter line k c some-kept lt) at (row-factor-small slots letter line k);
     }
 
 -- question 13, of the rows from place k on

@@ -103,7 +103,7 @@ module _ (book : Book) (letter year : ℕ) (paid : List ℤ) (unpaid tabular : L
   first-is : (slots : List ℕ) → firstNo (bookQuestions (view book slots) call)
       ≡ (if line .declared then (if isDue letter line year then (if haveKept (lineOf slots letter line .kept) year 0 (take (ages letter) (rowsOf paid unpaid tabular)) then none else some 13) else some 10) else some 8)
   unfolding bookQuestions
-  first-is slots = rw (declared-is book slots letter line (sound .letter) here, line-is book slots letter (sound .letter), ← here, due-is slots letter line year)
+  first-is slots = rw (declared-is book slots letter line here, line-is book slots letter, ← here, due-is slots letter line year)
 
   patterns-are : (slots : List ℕ) → isDue letter line year ≡ true
       → haveKept (lineOf slots letter line .kept) year 0 (take (ages letter) (rowsOf paid unpaid tabular)) ≡ havePatterns (keptCount letter line) (ages letter) unpaid tabular

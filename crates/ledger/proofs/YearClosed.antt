@@ -84,7 +84,7 @@ module _ (book : Book) (line : Line) (letter year : ℕ) (paid : List ℤ) (unpa
     amount = closing letter shown year rows
 
     row-factors : RowFactors letter shown year factors (suc (ages letter))
-    row-factors = rw (due-last letter year line (pre .turned .due)) (row-factors-are slots letter line factors are keeps)
+    row-factors = rw (due-last letter year line (pre .turned .due)) (row-factors-are slots letter line factors are (pre .turned .sound .letter) keeps)
 
     amount-small : amount ≤ 110000000000
     amount-small =
@@ -103,7 +103,7 @@ module _ (book : Book) (line : Line) (letter year : ℕ) (paid : List ℤ) (unpa
     year-closed n o eo end ee closed ec later el p ep v ev r er =
         rw (passes book line letter year paid unpaid tabular pre slots, er, ep, ev, el, ec, ee, eo, end-is)
         record {
-          outcome = rw (lines-put (book .lines) slots slots letter (withClosingOf line year amount) (pre .turned .sound .letter) n (λ other y c differ. refl), closed-line slots letter line year amount is-year amount-small, line-is book slots letter (pre .turned .sound .letter), ← (pre .turned .here), opening-is slots letter line (pre .turned .declared));
+          outcome = rw (lines-put (book .lines) slots slots letter (withClosingOf line year amount) (pre .turned .sound .letter) n (λ other y c differ. refl), closed-line slots letter line year amount is-year amount-small, line-is book slots letter, ← (pre .turned .here), opening-is slots letter line (pre .turned .declared));
           lent = refl;
           whole = refl;
         }

@@ -11,7 +11,7 @@ use Rattle.model.specs.Letter.{ages}
 use Rattle.model.specs.Row.{gross}
 use Rattle.reserve.specs.Lists.{statedRows}
 use Rattle.state.specs.declared.book.Line.{Line}
-use Rattle.state.specs.Patterns.{slotOf, slotAt, factorIn, keptCount}
+use Rattle.state.specs.Patterns.{factorAt, keptCount}
 
 -- a stated and a disclosed amount for each row
 pub record Paired (letter : ℕ) (unpaid tabular : List ℕ) : Type 0 where
@@ -26,8 +26,8 @@ havePatterns kept n unpaid tabular = all (λ row. eqb (gross row) 0) (drop kept 
 abbrev pub rowFactorOf : List ℕ → ℕ → Line → ℕ → ℕ
 rowFactorOf slots letter line k =
     if ltb k (ages letter)
-    then (if ltb k (keptCount letter line) then factorIn (getD (slotAt slots (slotOf letter (line .last - k))) k 0) else 0)
-    else factorIn (getD (slotAt slots (slotOf letter (line .last))) 10 0)
+    then (if ltb k (keptCount letter line) then factorAt slots letter (line .last - k) k else 0)
+    else factorAt slots letter (line .last) 10
 
 pub record FactorsOf (slots : List ℕ) (letter : ℕ) (line : Line) (factors : List ℕ) : Type 0 where
   pub each : (k : ℕ) → k < suc (ages letter) → getD factors k 0 ≡ rowFactorOf slots letter line k

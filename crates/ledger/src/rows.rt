@@ -1,15 +1,14 @@
 // The patterns that the rows of a year take.
-use crate::patterns::factor_in;
-use crate::patterns::kept_count;
 use kinds::amount::Amount;
 use kinds::letter::ages;
 use reserve::row::gross;
 use state::book::Line;
 use state::book::Patterns;
+use state::patterns::factor_in;
+use state::patterns::kept_count;
 ghost use mathlib.Core.Path.{_≡_};
-ghost use mathlib.Core.Bool.{true};
 ghost use Prim.Native.Nat.{_<_};
-ghost use Rattle.model.specs.Letter.{covered, ages};
+ghost use Rattle.model.specs.Letter.{ages};
 ghost use Rattle.state.specs.Patterns.{keptCount};
 ghost use Rattle.ledger.specs.Rows.{havePatterns, rowFactorOf, FactorsOf, Paired};
 
@@ -33,7 +32,7 @@ pub fn have_patterns(letter: u8, line: Line, unpaid: &[u64], tabular: &[u64]) ->
 
 // "Row of age a in year Y takes the pattern of accident year Y - a + 1; the prior row takes the composite of accident year Y.": at place k, with the last pattern's year as Y.
 fn row_factor(patterns: &Patterns, letter: u8, line: Line, k: usize) -> u64
-    requires { ⌜ (covered letter ≡ true) × (0 < keptCount letter line) ⌝ }
+    requires { ⌜ 0 < keptCount letter line ⌝ }
     ensures { λ r. ⌜ r ≡ rowFactorOf (now (patterns .entry)) letter line k ⌝ }
 {
     let kept = kept_count(letter, line);
@@ -49,7 +48,7 @@ fn row_factor(patterns: &Patterns, letter: u8, line: Line, k: usize) -> u64
 
 // The factors of all rows, and zeros.
 pub fn row_factors(patterns: &Patterns, letter: u8, line: Line) -> [u64; 11]
-    requires { ⌜ (covered letter ≡ true) × (0 < keptCount letter line) ⌝ }
+    requires { ⌜ 0 < keptCount letter line ⌝ }
     ensures { λ r. ⌜ FactorsOf (now (patterns .entry)) letter line r ⌝ }
 {
     let ages = ages(letter);

@@ -2,7 +2,9 @@ pub mod EmptyBook
 pub mod FactorLimits
 pub mod KeptPatterns
 pub mod KeptYears
+pub mod Maps
 pub mod Places
 pub mod RatePlaces
+pub mod Reading
 pub mod Views
 pub mod Writes

@@ -53,6 +53,6 @@ module _ (places : List ℕ) (year rate : ℕ) (l : length places ≡ 113) (e : 
   put-at y false true et es = absurd (false≢true (sym et ∙ rw (eqb-true y year es) e))
   put-at y false false et es = refl
 
-  pub rates-put : ratesOf (set places (year - 1987) rate) ≡ put (ratesOf places) year (some rate)
+  pub rates-put : ratesOf (if isYear year then set places (year - 1987) rate else places) ≡ put (ratesOf places) year (some rate)
   unfolding ratesOf
-  rates-put = fun-ext (λ y. put-at y (isYear y) (eqb y year) refl refl)
+  rates-put = rw e (fun-ext (λ y. put-at y (isYear y) (eqb y year) refl refl))

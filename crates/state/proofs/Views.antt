@@ -20,10 +20,14 @@ use Rattle.state.specs.Patterns.{slotOf, slotAt, keptBack, keptCount}
 use Rattle.state.specs.View.{lineOf, linesOf}
 use Rattle.state.proofs.Places.{covered-place, places-differ}
 
--- a covered letter's line
-pub line-is : (book : Book) (slots : List ℕ) (letter : ℕ) → covered letter ≡ true → linesOf (book .lines) slots letter ≡ lineOf slots letter (lineAt book letter)
-unfolding linesOf
-line-is book slots letter c = rw c
+-- a letter's line
+line-by : (book : Book) (slots : List ℕ) (letter : ℕ) (t : Bool) → covered letter ≡ t → linesOf (book .lines) slots letter ≡ lineOf slots letter (lineAt book letter)
+unfolding linesOf lineOf keptCount keptBack
+line-by book slots letter true c = rw c
+line-by book slots letter false c = rw c
+
+pub line-is : (book : Book) (slots : List ℕ) (letter : ℕ) → linesOf (book .lines) slots letter ≡ lineOf slots letter (lineAt book letter)
+line-is book slots letter = line-by book slots letter (covered letter) refl
 
 -- patterns in slots that hold the same
 pub kept-same : (slots later : List ℕ) (letter : ℕ) → ((year : ℕ) → slotAt later (slotOf letter year) ≡ slotAt slots (slotOf letter year)) → (n year : ℕ) → keptBack later letter n year ≡ keptBack slots letter n year
@@ -54,18 +58,19 @@ module _ (lines : List Line) (slots later : List ℕ) (letter : ℕ) (line : Lin
   elsewhere other differ true o = rw o (other-covered other differ o)
   elsewhere other differ false o = rw o
 
-  pub lines-put : linesOf stored later ≡ put (linesOf lines slots) letter (lineOf later letter line)
+  pub lines-put : linesOf (if covered letter then stored else lines) later ≡ put (linesOf lines slots) letter (lineOf later letter line)
   lines-put =
-      fun-ext (put-all (λ other shown. linesOf stored later other ≡ shown) (linesOf lines slots) letter (lineOf later letter line) here (λ other e. elsewhere other (eqb-false other letter e) (covered other) refl))
+      rw c
+      (fun-ext (put-all (λ other shown. linesOf stored later other ≡ shown) (linesOf lines slots) letter (lineOf later letter line) here (λ other e. elsewhere other (eqb-false other letter e) (covered other) refl)))
 
 -- is the line declared?
 declared-by : (t : Bool) (n : ℕ) → given (if t then some n else none) ≡ t
 declared-by true n = refl
 declared-by false n = refl
 
-pub declared-is : (book : Book) (slots : List ℕ) (letter : ℕ) (line : Line) → covered letter ≡ true → line ≡ lineAt book letter → given (linesOf (book .lines) slots letter .opening) ≡ line .declared
+pub declared-is : (book : Book) (slots : List ℕ) (letter : ℕ) (line : Line) → line ≡ lineAt book letter → given (linesOf (book .lines) slots letter .opening) ≡ line .declared
 unfolding lineOf
-declared-is book slots letter line c here = rw (line-is book slots letter c, ← here) (declared-by (line .declared) (min (line .opening) 100000000000))
+declared-is book slots letter line here = rw (line-is book slots letter, ← here) (declared-by (line .declared) (min (line .opening) 100000000000))
 
 -- how many lines there are, of an array of structs as the logic holds it
 pub length-mapped : (A B : Type 0) (f : A → B) (list : List A) (n : ℕ) → length (map f list) ≡ n → length list ≡ n

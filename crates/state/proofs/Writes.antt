@@ -1,18 +1,19 @@
 -- A slot of eleven numbers, stored into the lent list: what it holds then, what the others hold, and which those are.
 -- Assumes nothing.
-use mathlib.Core.Bool.{true}
-use mathlib.Core.Path.{_≡_, ap, _∙_}
+use mathlib.Core.Bool.{Bool, true, false}
+use mathlib.Core.Path.{_≡_, refl, ap, _∙_}
 use mathlib.Core.Logic.{⊎-elim}
 use mathlib.Core.List.{List, [], _∷_, _++_, append-assoc, append-nil}
 use Prim.Native.Nat.{ℕ, suc, _+_, _-_, _*_, _%_, _≤_, _<_}
 use native.Mathlib.Omega.{arith, by-contra}
 use native.Mathlib.Nat.{eq-zero-or-pos, add-sub-cancel-left}
 use native.Mathlib.Numerals.{add-one}
-use lib.ListN.{length, take, drop, getD, set, length-append, length-drop, take-append-drop}
+use lib.ListN.{length, take, drop, getD, set, length-append, length-take, length-drop, take-append-drop, List·getD-eq-default}
 use lib.Seq.{length-take-le, take-length, drop-length, take-suc, drop-cons, set-at, take-at, drop-at, take-append-le, drop-append-le, drop-drop, getD-take, getD-drop}
+use Rattle.model.specs.Basics.{if_then_else_}
 use Rattle.model.specs.Letter.{covered}
 use Rattle.state.specs.Lines.{placeOf}
-use Rattle.state.specs.Patterns.{slotOf, slotAt, factorIn, written}
+use Rattle.state.specs.Patterns.{slotOf, slotAt, factorIn, factorAt, written, withSlotOf}
 use Rattle.state.proofs.Places.{covered-place, places-differ}
 
 -- a turn of the loop that copies one list over another, and its end
@@ -25,9 +26,25 @@ pub copied-all : {A : Type 0} (from to : List A) (i : ℕ) → i ≡ length from
 copied-all from to i e l = rw (e, take-length from, ← l, drop-length to) (append-nil from)
 
 -- a number of a slot, read where it lies
-pub slot-read : (slots : List ℕ) (slot s place factor : ℕ) → factor ≡ factorIn (getD slots (slot * 11 + place) 0) → slot ≡ s → place < 11 → factor ≡ factorIn (getD (slotAt slots s) place 0)
+module _ (slots : List ℕ) (letter year place factor : ℕ) (t : Bool) (et : t ≡ covered letter) where
+  pub slot-read : t ≡ true → (slot : ℕ) → factor ≡ factorIn (getD slots (slot * 11 + place) 0) → slot ≡ slotOf letter year → place ≤ 10 → factor ≡ factorAt slots letter year place
+  unfolding slotAt
+  slot-read c slot r e le =
+      rw (← et, c, getD-take 11 (drop (slotOf letter year * 11) slots) place 0 (omega arith), getD-drop (slotOf letter year * 11) slots place 0, ← e) r
+
+  pub no-slot : t ≡ false → 0 ≡ factorAt slots letter year place
+  no-slot c = rw (← et, c)
+
+-- and none past its end
+past-by : (t : Bool) (n : ℕ) → n ≡ 0 → 0 ≡ (if t then factorIn n else 0)
+past-by true n e = omega arith
+past-by false n e = refl
+
+pub past-slot : (slots : List ℕ) (letter year place : ℕ) → 10 < place → 0 ≡ factorAt slots letter year place
 unfolding slotAt
-slot-read slots slot s place factor r e lt = rw (getD-take 11 (drop (s * 11) slots) place 0 lt, getD-drop (s * 11) slots place 0, ← e) r
+past-slot slots letter year place lt =
+    let slot : List ℕ = take 11 (drop (slotOf letter year * 11) slots) in
+    past-by (covered letter) (getD slot place 0) (List·getD-eq-default slot 0 {n = place} (omega (arith, length-take 11 (drop (slotOf letter year * 11) slots))))
 
 -- a part of a list before what differs, and after it
 before : (kept old new : List ℕ) (at n : ℕ) → at + n ≤ length kept → take n (drop at (kept ++ new)) ≡ take n (drop at (kept ++ old))
@@ -69,7 +86,7 @@ module _ (slots numbers : List ℕ) (s : ℕ) (l : length slots ≡ 1650) (lt : 
       (eq-zero-or-pos (s - t))
 
 -- as code stores a slot: ten numbers over a part of the list, then one more
-pub stored : (slots part factors : List ℕ) (s composite : ℕ) → length slots ≡ 1650 → s < 150 → length factors ≡ 10 → part ≡ factors
+stored : (slots part factors : List ℕ) (s composite : ℕ) → length slots ≡ 1650 → s < 150 → length factors ≡ 10 → part ≡ factors
     → set (take (s * 11) slots ++ (part ++ drop (s * 11 + 10 - s * 11) (drop (s * 11) slots))) (s * 11 + 10) composite ≡ written slots s (factors ++ (composite ∷ []))
 unfolding written
 stored slots part factors s composite l lt n e =
@@ -87,6 +104,14 @@ stored slots part factors s composite l lt n e =
       end,
     )
     (simp append-assoc)
+
+module _ (slots : List ℕ) (letter year composite : ℕ) (factors : List ℕ) (t : Bool) (et : t ≡ covered letter) where
+  pub slot-stored : t ≡ true → (part : List ℕ) (s : ℕ) → s ≡ slotOf letter year → s < 150 → length slots ≡ 1650 → length factors ≡ 10 → part ≡ factors
+      → set (take (s * 11) slots ++ (part ++ drop (s * 11 + 10 - s * 11) (drop (s * 11) slots))) (s * 11 + 10) composite ≡ withSlotOf slots letter year (factors ++ (composite ∷ []))
+  slot-stored c part s es lt l n e = stored slots part factors s composite l lt n e ∙ rw (← et, c, es)
+
+  pub nothing-stored : t ≡ false → slots ≡ withSlotOf slots letter year (factors ++ (composite ∷ []))
+  nothing-stored c = rw (← et, c)
 
 -- the slots of two letters, and of successive years of one
 same-place : (p q y z : ℕ) → p * 10 + y % 10 ≡ q * 10 + z % 10 → p ≡ q

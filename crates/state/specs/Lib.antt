@@ -1,4 +1,5 @@
 pub mod Lines
 pub mod Patterns
 pub mod Rates
+pub mod Read
 pub mod View

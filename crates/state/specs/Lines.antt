@@ -5,6 +5,7 @@ use Prim.Native.Nat.{ℕ, _-_}
 use lib.Dec.{leb}
 use lib.ListN.{getD, set}
 use Rattle.model.specs.Basics.{if_then_else_}
+use Rattle.model.specs.Letter.{covered}
 use Rattle.state.specs.declared.book.Book.{Book}
 use Rattle.state.specs.declared.book.Line.{Line}
 
@@ -16,13 +17,14 @@ placeOf letter = if leb letter 76 then letter - 65 else letter - 70
 abbrev pub noLine : Line
 noLine = record { declared = false; opening = 0; closed = 0; closing = 0; last = 0; kept = 0 }
 
+-- a letter's line: a letter that is not covered has an undeclared one
 abbrev pub lineAt : Book → ℕ → Line
-lineAt book letter = getD (book .lines) (placeOf letter) noLine
+lineAt book letter = if covered letter then getD (book .lines) (placeOf letter) noLine else noLine
 
--- the book with a line anew
+-- the book with a line anew: as it was, where the letter is not covered
 abbrev pub withLineOf : Book → ℕ → Line → Book
 withLineOf book letter line =
-    record { rates = book .rates; lines = set (book .lines) (placeOf letter) line; accepted = book .accepted; refused = book .refused }
+    record { rates = book .rates; lines = if covered letter then set (book .lines) (placeOf letter) line else book .lines; accepted = book .accepted; refused = book .refused }
 
 -- the line that LINE declares
 abbrev pub newLine : ℕ → Line

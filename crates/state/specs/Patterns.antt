@@ -6,7 +6,7 @@ use Prim.Native.Nat.{ℕ, zero, suc, _+_, _-_, _*_, _%_, min}
 use lib.ListN.{take, drop, getD, replicate}
 use Rattle.model.specs.Basics.{if_then_else_}
 use Rattle.model.specs.Kind.{isYear}
-use Rattle.model.specs.Letter.{ages}
+use Rattle.model.specs.Letter.{covered, ages}
 use Rattle.model.specs.Book.{Kept}
 use Rattle.state.specs.declared.book.Line.{Line}
 use Rattle.state.specs.Lines.{placeOf}
@@ -22,6 +22,10 @@ slotAt slots s = take 11 (drop (s * 11) slots)
 -- a factor is at most 1: what lies past it is read as 1
 abbrev pub factorIn : ℕ → ℕ
 factorIn n = min n 10000000000
+
+-- a factor in the slot of a letter and an accident year, or its composite at place 10: a letter that is not covered has no slot
+abbrev pub factorAt : List ℕ → ℕ → ℕ → ℕ → ℕ
+factorAt slots letter year place = if covered letter then factorIn (getD (slotAt slots (slotOf letter year)) place 0) else 0
 
 -- the pattern of a letter and an accident year
 abbrev pub keptIn : List ℕ → ℕ → ℕ → Kept
@@ -44,6 +48,10 @@ keptCount letter line = if isYear (line .last) then min (line .kept) (ages lette
 -- the list with a slot anew
 unfoldable pub written : List ℕ → ℕ → List ℕ → List ℕ
 written slots s numbers = take (s * 11) slots ++ (numbers ++ drop (s * 11 + 11) slots)
+
+-- the list with the slot of a letter and an accident year anew: as it was, where the letter is not covered
+abbrev pub withSlotOf : List ℕ → ℕ → ℕ → List ℕ → List ℕ
+withSlotOf slots letter year numbers = if covered letter then written slots (slotOf letter year) numbers else slots
 
 -- a line with one pattern more
 abbrev pub withPatternOf : ℕ → Line → ℕ → Line

@@ -20,7 +20,7 @@ accept-requires : tie.Need-accept-requires
 accept-requires c κs = search needs
 
 returns : tie.Need-returns
-returns c = (c .accept .ensures ∙ rw (c .before .publish .ensures, c .before .before .with-line .ensures, c .before .before .before .with-pattern .ensures), c .before .before .before .before .keep .ensures .0, c .before .before .before .before .keep .ensures .1)
+returns c = (c .accept .ensures ∙ rw (c .before .publish .ensures, c .before .before .with-line .ensures, c .before .before .before .with-pattern .ensures), c .before .before .before .before .keep .ensures .0, c .before .before .before .before .keep .ensures .1 ∙ rw (c .before .before .before .before .before .before .pre))
 
 pub keep-pattern-spec : {M : Type 1} → statement M
 keep-pattern-spec =

@@ -11,7 +11,7 @@ use Rattle.ledger.proofs.close_year.end_year.Statement.{statement}
 use Rattle.ledger.proofs.close_year.end_year.Tie as tie
 
 row-factors-requires : tie.Need-row-factors-requires
-row-factors-requires c κs = (c .before .before .pre .turned .sound .letter, keeps _ _ _ _ _ _ _ (c .before .before .pre))
+row-factors-requires c κs = search keeps
 
 opening-of-requires : tie.Need-opening-of-requires
 opening-of-requires c κs = search needs

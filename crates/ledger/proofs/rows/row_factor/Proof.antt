@@ -13,7 +13,7 @@ ages-requires : tie.Need-ages-requires
 ages-requires c κs = search needs
 
 sub-factor-in : tie.Need-sub-factor-in
-sub-factor-in c = let args = c .before .before .before .before .args in omega (arith, kept-year (args .letter) (args .line) (c .before .before .before .before .pre .1))
+sub-factor-in c = let args = c .before .before .before .before .args in omega (arith, kept-year (args .letter) (args .line) (c .before .before .before .before .pre))
 
 factor-in-requires : tie.Need-factor-in-requires
 factor-in-requires c κs = search needs

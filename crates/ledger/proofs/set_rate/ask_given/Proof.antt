@@ -1,6 +1,6 @@
 -- `ledger::set_rate::ask_given` meets its contract. Assumes nothing.
 use borrow.Author.Needs.{needs}
-use Rattle.ledger.proofs.RateSet.{set-year, rate-given, rate-set}
+use Rattle.ledger.proofs.RateSet.{rate-given, rate-set}
 use Rattle.ledger.proofs.set_rate.ask_given.Statement.{statement}
 use Rattle.ledger.proofs.set_rate.ask_given.Tie as tie
 
@@ -17,7 +17,7 @@ enum-told-2 : tie.Need-enum-told-2
 enum-told-2 c = search needs
 
 with-rate-requires : tie.Need-with-rate-requires
-with-rate-requires c κs = search set-year
+with-rate-requires c κs = search needs
 
 number-requires : tie.Need-number-requires
 number-requires c κs = search needs

@@ -1,0 +1,50 @@
+-- `state::patterns::factor_in` meets its contract. Assumes nothing.
+use borrow.Author.Needs.{needs}
+use Rattle.state.proofs.Writes.{slot-read, no-slot, past-slot}
+use Rattle.state.proofs.patterns.factor_in.Statement.{statement}
+use Rattle.state.proofs.patterns.factor_in.Tie as tie
+
+returns : tie.Need-returns
+returns c = search past-slot
+
+is-covered-requires : tie.Need-is-covered-requires
+is-covered-requires c κs = search needs
+
+slot-of-requires : tie.Need-slot-of-requires
+slot-of-requires c κs = cc
+
+mul-at : tie.Need-mul-at
+mul-at c = search needs
+
+add-at : tie.Need-add-at
+add-at c = search needs
+
+mul-t9 : tie.Need-mul-t9
+mul-t9 c = search needs
+
+element-copy-out-t13 : tie.Need-element-copy-out-t13
+element-copy-out-t13 c = search needs
+
+number-requires : tie.Need-number-requires
+number-requires c κs = search needs
+
+returns-2 : tie.Need-returns-2
+returns-2 c = search slot-read
+
+returns-3 : tie.Need-returns-3
+returns-3 c = search no-slot
+
+pub factor-in-spec : {M : Type 1} → statement M
+factor-in-spec =
+    tie.close
+    (tie.spec
+    returns
+    is-covered-requires
+    slot-of-requires
+    mul-at
+    add-at
+    mul-t9
+    element-copy-out-t13
+    number-requires
+    returns-2
+    returns-3)

@@ -1,0 +1,23 @@
+-- `state::read::kept_pattern` meets its contract. Assumes nothing.
+use borrow.Author.Needs.{needs}
+use Rattle.state.proofs.Reading.{kept-covered, pattern-kept, pattern-none}
+use Rattle.state.proofs.read.kept_pattern.Statement.{statement}
+use Rattle.state.proofs.read.kept_pattern.Tie as tie
+
+is-kept-requires : tie.Need-is-kept-requires
+is-kept-requires c κs = search needs
+
+factors-of-requires : tie.Need-factors-of-requires
+factors-of-requires c κs = search (kept-covered, needs)
+
+factor-in-requires : tie.Need-factor-in-requires
+factor-in-requires c κs = search needs
+
+returns : tie.Need-returns
+returns c = search pattern-kept
+
+returns-2 : tie.Need-returns-2
+returns-2 c = search pattern-none
+
+pub kept-pattern-spec : {M : Type 1} → statement M
+kept-pattern-spec = tie.close (tie.spec is-kept-requires factors-of-requires factor-in-requires returns returns-2)
