@@ -1,46 +1,49 @@
 -- A record's bytes: what the reader's verdict makes of them.
 -- Assumes nothing.
-use mathlib.Core.List.{List}
-use mathlib.Core.Path.{_≡_}
+use mathlib.Core.List.{List, [], _∷_}
+use mathlib.Core.Path.{_≡_, refl, _∙_}
 use Prim.Native.Nat.{ℕ, suc, _+_}
 use native.Mathlib.Numerals.{add-one}
 use lib.IntN.{ℤ}
 use lib.ListN.{take}
+use denote.Enum.Declared.{tagOf}
+use types.Run.{OneOf, miss}
 use Rattle.model.specs.Letter.{ages}
 use Rattle.model.specs.Book as model
 use Rattle.model.specs.Call.{declare, setRate, addPattern, closeYear}
 use Rattle.model.specs.Step.{asBytes, asNumbers}
 use Rattle.record.specs.declared.request.Request.{Request}
+use Rattle.record.specs.declared.request.Verdict.{Verdict}
 use Rattle.record.specs.declared.request.Verdict.the-variants as verdict
-use Rattle.record.specs.Request.{says, readOf}
+use Rattle.record.specs.Request.{refusedAt, saying, says, readOf}
+use Rattle.record.proofs.request.Verdict.{the-type}
 use Rattle.record.proofs.Answers.{said}
 use Rattle.state.specs.declared.book.Book.{Book}
-use Rattle.ledger.specs.declared.answer.Refusal.the-variants as refusal
+use Rattle.ledger.specs.declared.answer.Refusal.{Refusal}
 use Rattle.ledger.specs.declared.answer.Outcome.{Outcome}
 use Rattle.state.specs.View.{view}
-use Rattle.ledger.specs.Answer.{refusedOf}
+use Rattle.ledger.specs.Answer.{numberOf, refusedOf}
 use Rattle.ledger.specs.Does.{Does, DoesAnyhow}
-use Rattle.journal.specs.Apply.{patternCall, yearCall}
+use Rattle.journal.specs.Apply.{refusalOf, patternCall, yearCall}
 use Rattle.journal.proofs.LineQuestions.{line-refused, line-asks}
 
+-- what is no call is a refusal
+refused-as : (v : Verdict) (request : Request) → OneOf (0 ∷ 1 ∷ 2 ∷ 3 ∷ 4 ∷ 5 ∷ []) (tagOf the-type v) → saying v request ≡ refusedAt (numberOf (refusalOf v))
+refused-as verdict.Long request told = refl
+refused-as verdict.Word request told = refl
+refused-as verdict.Letter request told = refl
+refused-as verdict.Count request told = refl
+refused-as verdict.Writing request told = refl
+refused-as verdict.Limits request told = refl
+refused-as verdict.Declare request told = absurd (miss (0 ∷ 1 ∷ 2 ∷ 3 ∷ 4 ∷ 5 ∷ []) 6 tt told)
+refused-as verdict.SetRate request told = absurd (miss (0 ∷ 1 ∷ 2 ∷ 3 ∷ 4 ∷ 5 ∷ []) 7 tt told)
+refused-as verdict.AddPattern request told = absurd (miss (0 ∷ 1 ∷ 2 ∷ 3 ∷ 4 ∷ 5 ∷ []) 8 tt told)
+refused-as verdict.CloseYear request told = absurd (miss (0 ∷ 1 ∷ 2 ∷ 3 ∷ 4 ∷ 5 ∷ []) 9 tt told)
+
 module _ (line : List ℕ) (request : Request) (reads : says request ≡ readOf line) (book : Book) (r : Outcome) (slots : List ℕ) where
-  pub long : request .verdict ≡ verdict.Long → r ≡ refusedOf book refusal.Long → Does (view book slots) (asBytes line) slots r slots
-  long e er = line-refused line slots r book refusal.Long (said request line reads verdict.Long e) er
-
-  pub wordless : request .verdict ≡ verdict.Word → r ≡ refusedOf book refusal.Word → Does (view book slots) (asBytes line) slots r slots
-  wordless e er = line-refused line slots r book refusal.Word (said request line reads verdict.Word e) er
-
-  pub letterless : request .verdict ≡ verdict.Letter → r ≡ refusedOf book refusal.Letter → Does (view book slots) (asBytes line) slots r slots
-  letterless e er = line-refused line slots r book refusal.Letter (said request line reads verdict.Letter e) er
-
-  pub miscounted : request .verdict ≡ verdict.Count → r ≡ refusedOf book refusal.Count → Does (view book slots) (asBytes line) slots r slots
-  miscounted e er = line-refused line slots r book refusal.Count (said request line reads verdict.Count e) er
-
-  pub ill-written : request .verdict ≡ verdict.Writing → r ≡ refusedOf book refusal.Writing → Does (view book slots) (asBytes line) slots r slots
-  ill-written e er = line-refused line slots r book refusal.Writing (said request line reads verdict.Writing e) er
-
-  pub past-limits : request .verdict ≡ verdict.Limits → r ≡ refusedOf book refusal.Limits → Does (view book slots) (asBytes line) slots r slots
-  past-limits e er = line-refused line slots r book refusal.Limits (said request line reads verdict.Limits e) er
+  pub refuses : OneOf (0 ∷ 1 ∷ 2 ∷ 3 ∷ 4 ∷ 5 ∷ []) (tagOf the-type (request .verdict)) → (question : Refusal) → question ≡ refusalOf (request .verdict) → r ≡ refusedOf book question → Does (view book slots) (asBytes line) slots r slots
+  refuses told question eq er =
+      line-refused line slots r book question (said request line reads (request .verdict) refl ∙ refused-as (request .verdict) request told ∙ rw eq) er
 
   pub declares : request .verdict ≡ verdict.Declare → DoesAnyhow book (asNumbers (declare (request .letter) (request .opening))) r → Does (view book slots) (asBytes line) slots r slots
   declares e h = line-asks line slots r (view book slots) (declare (request .letter) (request .opening)) slots (said request line reads verdict.Declare e) (h slots)

@@ -14,9 +14,26 @@ use Rattle.model.specs.Run.{after, recordsOf}
 use Rattle.model.specs.History.{accepted}
 use Rattle.model.specs.Demand.{Holds}
 use Rattle.record.specs.declared.request.Request.{Request}
+use Rattle.record.specs.declared.request.Verdict.{Verdict}
+use Rattle.record.specs.declared.request.Verdict.the-variants as verdict
 use Rattle.state.specs.declared.book.Book.{Book}
 use Rattle.state.specs.View.{view}
+use Rattle.ledger.specs.declared.answer.Refusal.{Refusal}
+use Rattle.ledger.specs.declared.answer.Refusal.the-variants as refusal
 use Rattle.ledger.specs.Does.{slotsAfter}
+
+-- the question of 1 to 6 that a record's verdict answers no
+abbrev pub refusalOf : Verdict → Refusal
+refusalOf verdict.Long = refusal.Long
+refusalOf verdict.Word = refusal.Word
+refusalOf verdict.Letter = refusal.Letter
+refusalOf verdict.Count = refusal.Count
+refusalOf verdict.Writing = refusal.Writing
+refusalOf verdict.Limits = refusal.Limits
+refusalOf verdict.Declare = refusal.Limits
+refusalOf verdict.SetRate = refusal.Limits
+refusalOf verdict.AddPattern = refusal.Limits
+refusalOf verdict.CloseYear = refusal.Limits
 
 abbrev pub patternCall : Request → Call
 patternCall r = addPattern (r .letter) (r .year) (take (ages (r .letter)) (r .paid)) (take (ages (r .letter)) (r .incurred))

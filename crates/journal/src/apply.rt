@@ -12,10 +12,11 @@ use record::request::Request;
 use record::request::Verdict;
 use state::book::Book;
 use state::book::Patterns;
+ghost use mathlib.Core.Path.{_≡_};
 ghost use Rattle.model.specs.Step.{asBytes, asNumbers};
 ghost use Rattle.state.specs.View.{view};
 ghost use Rattle.ledger.specs.Does.{Does};
-ghost use Rattle.journal.specs.Apply.{patternCall, yearCall};
+ghost use Rattle.journal.specs.Apply.{refusalOf, patternCall, yearCall};
 
 // "Questions put to a record, in this order": 1 to 6 by the reader, which answers a call with numbers, and then those of the call.
 pub fn apply(book: Book, patterns: &mut Patterns, line: &[u8]) -> Outcome
@@ -24,12 +25,6 @@ pub fn apply(book: Book, patterns: &mut Patterns, line: &[u8]) -> Outcome
     let request = read(line);
     let verdict = request.verdict;
     match verdict {
-        Verdict::Long => refuse(book, Refusal::Long),
-        Verdict::Word => refuse(book, Refusal::Word),
-        Verdict::Letter => refuse(book, Refusal::Letter),
-        Verdict::Count => refuse(book, Refusal::Count),
-        Verdict::Writing => refuse(book, Refusal::Writing),
-        Verdict::Limits => refuse(book, Refusal::Limits),
         Verdict::Declare => declare(book, request.letter, request.opening),
         Verdict::SetRate => {
             let months = request.months;
@@ -37,6 +32,25 @@ pub fn apply(book: Book, patterns: &mut Patterns, line: &[u8]) -> Outcome
         }
         Verdict::AddPattern => apply_pattern(book, patterns, request),
         Verdict::CloseYear => apply_year(book, patterns, request),
+        _ => refuse(book, refusal_of(verdict)),
+    }
+}
+
+// The question of 1 to 6 that is answered no. (It is not asked for where none is.)
+fn refusal_of(verdict: Verdict) -> Refusal
+    ensures { λ r. ⌜ r ≡ refusalOf verdict ⌝ }
+{
+    match verdict {
+        Verdict::Long => Refusal::Long,
+        Verdict::Word => Refusal::Word,
+        Verdict::Letter => Refusal::Letter,
+        Verdict::Count => Refusal::Count,
+        Verdict::Writing => Refusal::Writing,
+        Verdict::Limits => Refusal::Limits,
+        Verdict::Declare => Refusal::Limits,
+        Verdict::SetRate => Refusal::Limits,
+        Verdict::AddPattern => Refusal::Limits,
+        Verdict::CloseYear => Refusal::Limits,
     }
 }
 

@@ -14,6 +14,7 @@ use Rattle.model.specs.Tail.{schedule}
 use Rattle.model.specs.Call.{Call, addPattern}
 use Rattle.model.specs.Question.{Sound, hasLengths, isWithinLimits, hasIncurred, climbs, bookQuestions, firstNo}
 use Rattle.model.specs.Step.{asNumbers}
+use Rattle.model.proofs.Lists.{true≢false}
 use Rattle.kinds.specs.declared.rate.Rate.{Rate}
 use Rattle.kinds.specs.Rate.{rateNumber}
 use Rattle.factor.specs.declared.pattern.Pattern.{Pattern}
@@ -22,6 +23,7 @@ use Rattle.factor.specs.Pattern as factor
 use Rattle.factor.specs.Pattern.{keptOf, patternOf}
 use Rattle.state.specs.declared.book.Book.{Book}
 use Rattle.state.specs.declared.book.Line.{Line}
+use Rattle.ledger.specs.declared.answer.Refusal.{Refusal}
 use Rattle.ledger.specs.declared.answer.Refusal.the-variants as refusal
 use Rattle.ledger.specs.declared.answer.Outcome.{Outcome}
 use Rattle.state.specs.declared.rates.YearRate.{YearRate}
@@ -29,9 +31,9 @@ use Rattle.state.specs.declared.rates.YearRate.the-variants as year-rate
 use Rattle.state.specs.Rates.{ratesOf, yearRate}
 use Rattle.state.specs.Lines.{lineAt}
 use Rattle.state.specs.View.{view}
-use Rattle.ledger.specs.Answer.{refusedOf}
+use Rattle.ledger.specs.Answer.{numberOf, refusedOf}
 use Rattle.ledger.specs.Does.{Settled, Does}
-use Rattle.ledger.specs.AddPattern.{followsLast, Turned}
+use Rattle.ledger.specs.AddPattern.{followsLast, isFine, refusalOf, Turned}
 use Rattle.ledger.proofs.Settling.{refused, goes-on-does}
 use Rattle.state.proofs.Views.{line-is, declared-is}
 use Rattle.ledger.proofs.Turns.{follows-is}
@@ -76,31 +78,15 @@ module _ (book : Book) (letter year : ℕ) (paid incurred : List ℕ) (sound : S
 abbrev judged : Bool → Bool → Pattern → Pattern
 judged a b p = if a then (if b then p else factor.refused verdict.Falls) else factor.refused verdict.Incurred
 
-judged-falls : (a b : Bool) (p : Pattern) → p .verdict ≡ verdict.Fine → judged a b p .verdict ≡ verdict.Falls → (a ≡ true) × (b ≡ false)
-judged-falls true true p f e = let z : _≡_ {A = ℕ} 0 1 = cc in absurd (omega arith)
-judged-falls true false p f e = (refl, refl)
-judged-falls false b p f e = let z : _≡_ {A = ℕ} 0 1 = cc in absurd (omega arith)
-
-judged-incurred : (a b : Bool) (p : Pattern) → p .verdict ≡ verdict.Fine → judged a b p .verdict ≡ verdict.Incurred → a ≡ false
-judged-incurred true true p f e = let z : _≡_ {A = ℕ} 0 1 = cc in absurd (omega arith)
-judged-incurred true false p f e = let z : _≡_ {A = ℕ} 0 1 = cc in absurd (omega arith)
-judged-incurred false b p f e = refl
-
-judged-fine : (a b : Bool) (p : Pattern) → judged a b p .verdict ≡ verdict.Fine → (a ≡ true) × (b ≡ true)
+judged-fine : (a b : Bool) (p : Pattern) → isFine (judged a b p .verdict) ≡ true → (a ≡ true) × (b ≡ true)
 judged-fine true true p e = (refl, refl)
-judged-fine true false p e = let z : _≡_ {A = ℕ} 0 1 = cc in absurd (omega arith)
-judged-fine false b p e = let z : _≡_ {A = ℕ} 0 1 = cc in absurd (omega arith)
+judged-fine true false p e = absurd (true≢false (sym e))
+judged-fine false b p e = absurd (true≢false (sym e))
 
--- its lists had their length and limits before
-judged-length : (a b : Bool) (p : Pattern) → p .verdict ≡ verdict.Fine → judged a b p .verdict ≡ verdict.Length → ⊥
-judged-length true true p f e = let z : _≡_ {A = ℕ} 0 1 = cc in omega arith
-judged-length true false p f e = let z : _≡_ {A = ℕ} 0 1 = cc in omega arith
-judged-length false b p f e = let z : _≡_ {A = ℕ} 0 1 = cc in omega arith
-
-judged-limits : (a b : Bool) (p : Pattern) → p .verdict ≡ verdict.Fine → judged a b p .verdict ≡ verdict.Limits → ⊥
-judged-limits true true p f e = let z : _≡_ {A = ℕ} 0 1 = cc in omega arith
-judged-limits true false p f e = let z : _≡_ {A = ℕ} 0 1 = cc in omega arith
-judged-limits false b p f e = let z : _≡_ {A = ℕ} 0 1 = cc in omega arith
+judged-refused : (a b : Bool) (p : Pattern) → p .verdict ≡ verdict.Fine → isFine (judged a b p .verdict) ≡ false → (if a then (if b then none else some 12) else some 11) ≡ some (numberOf (refusalOf (judged a b p .verdict)))
+judged-refused true true p f e = absurd (true≢false (rw f at e))
+judged-refused true false p f e = refl
+judged-refused false b p f e = refl
 
 amounts : (y a b : Bool) → (y && a && b) ≡ true → (a && b) ≡ true
 amounts true a b e = e
@@ -119,24 +105,13 @@ module _ (book : Book) (line : Line) (letter year rate : ℕ) (paid incurred : L
   first-of-two : (slots : List ℕ) → firstNo (bookQuestions (view book slots) asks) ≡ (if hasIncurred asks then (if climbs asks then none else some 12) else some 11)
   first-of-two slots = first-is book letter year paid incurred (pre .sound) line (pre .here) slots ∙ rw (pre .turn, pre .rated, pre .declared)
 
-  pub passes : pattern .verdict ≡ verdict.Fine → (slots : List ℕ) → (firstNo (bookQuestions (view book slots) asks) ≡ none) × (pattern ≡ fine)
-  passes e slots =
-      let t = judged-fine (hasIncurred asks) (climbs asks) fine (rw pattern-is at e) in
-      (first-of-two slots ∙ rw (t .0, t .1), pattern-is ∙ rw (t .0, t .1))
+  module _ (t : Bool) (et : t ≡ isFine (pattern .verdict)) where
+    pub passes : t ≡ true → (slots : List ℕ) → (firstNo (bookQuestions (view book slots) asks) ≡ none) × (pattern ≡ fine)
+    passes e slots =
+        let both = judged-fine (hasIncurred asks) (climbs asks) fine (rw pattern-is at (sym et ∙ e)) in
+        (first-of-two slots ∙ rw (both .0, both .1), pattern-is ∙ rw (both .0, both .1))
 
-  module _ (slots : List ℕ) (r : Outcome) where
-    pub not-incurred : pattern .verdict ≡ verdict.Incurred → r ≡ refusedOf book refusal.Incurred → Settled (view book slots) asks slots r slots
-    not-incurred e er =
-        let t = judged-incurred (hasIncurred asks) (climbs asks) fine refl (rw pattern-is at e) in
-        refused book refusal.Incurred (firstNo (bookQuestions (view book slots) asks)) asks slots r (first-of-two slots ∙ rw t) er
-
-    pub falls : pattern .verdict ≡ verdict.Falls → r ≡ refusedOf book refusal.Falls → Settled (view book slots) asks slots r slots
-    falls e er =
-        let t = judged-falls (hasIncurred asks) (climbs asks) fine refl (rw pattern-is at e) in
-        refused book refusal.Falls (firstNo (bookQuestions (view book slots) asks)) asks slots r (first-of-two slots ∙ rw (t .0, t .1)) er
-
-    pub no-length : pattern .verdict ≡ verdict.Length → Settled (view book slots) asks slots r slots
-    no-length e = absurd (judged-length (hasIncurred asks) (climbs asks) fine refl (rw pattern-is at e))
-
-    pub no-limits : pattern .verdict ≡ verdict.Limits → Settled (view book slots) asks slots r slots
-    no-limits e = absurd (judged-limits (hasIncurred asks) (climbs asks) fine refl (rw pattern-is at e))
+    pub ratios-refused : t ≡ false → (slots : List ℕ) (question : Refusal) → question ≡ refusalOf (pattern .verdict) → (r : Outcome) → r ≡ refusedOf book question → Settled (view book slots) asks slots r slots
+    ratios-refused e slots question eq r er =
+        refused book question (firstNo (bookQuestions (view book slots) asks)) asks slots r
+        (first-of-two slots ∙ judged-refused (hasIncurred asks) (climbs asks) fine refl (rw pattern-is at (sym et ∙ e)) ∙ rw (eq, pattern-is)) er

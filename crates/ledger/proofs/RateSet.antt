@@ -1,7 +1,7 @@
 -- RATE: what the mean of its months says of questions 4 and 6, and question 7.
 -- Assumes nothing.
 use mathlib.Core.Bool.{Bool, true, false, _&&_}
-use mathlib.Core.List.{List}
+use mathlib.Core.List.{List, [], _∷_}
 use mathlib.Core.Path.{_≡_, refl, sym, ap, _∙_}
 use mathlib.Core.Option.{Option, none, some}
 use Prim.Native.Nat.{ℕ, _≤_}
@@ -9,6 +9,8 @@ use native.Mathlib.Omega.{arith}
 use borrow.Author.Tests.{eqb-true}
 use lib.Dec.{eqb}
 use lib.ListN.{length}
+use denote.Enum.Declared.{tagOf}
+use types.Run.{OneOf, miss}
 use Rattle.model.specs.Basics.{if_then_else_, given, all}
 use Rattle.model.specs.Kind.{isRate, isYear}
 use Rattle.model.specs.Rate.{rateOf}
@@ -20,9 +22,11 @@ use Rattle.kinds.specs.declared.rate.Rate.{Rate}
 use Rattle.kinds.specs.Rate.{rateNumber}
 use Rattle.factor.specs.Rate.{meanOf}
 use Rattle.factor.specs.declared.rate.Mean.{Mean}
+use Rattle.factor.proofs.rate.Mean.{the-type}
 use Rattle.factor.specs.declared.rate.Mean.the-variants as mean
 use Rattle.factor.proofs.Totals.{sum-small}
 use Rattle.state.specs.declared.book.Book.{Book}
+use Rattle.ledger.specs.declared.answer.Refusal.{Refusal}
 use Rattle.ledger.specs.declared.answer.Refusal.the-variants as refusal
 use Rattle.ledger.specs.declared.answer.Answer.the-variants as answer
 use Rattle.ledger.specs.declared.answer.Outcome.{Outcome}
@@ -32,7 +36,7 @@ use Rattle.state.specs.Rates.{ratesOf, yearRate, withRateOf}
 use Rattle.state.specs.View.{view}
 use Rattle.ledger.specs.Answer.{nothing, refusedOf, acceptedOf}
 use Rattle.ledger.specs.Does.{slotsAfter, SettledAnyhow, DoesAnyhow}
-use Rattle.ledger.specs.SetRate.{Averaged}
+use Rattle.ledger.specs.SetRate.{refusalOf, Averaged}
 use Rattle.ledger.proofs.Settling.{refused, count-refused, limits-refused, goes-on-anyhow}
 use Rattle.state.proofs.RatePlaces.{rates-put}
 
@@ -90,13 +94,19 @@ module _ (year : ℕ) (months : List ℕ) (m : Mean) (em : m ≡ meanOf months) 
     pub year-refused : limited ≡ false → (book : Book) (r : Outcome) → r ≡ refusedOf book refusal.Limits → DoesAnyhow book (asNumbers (setRate year months)) r
     year-refused y book r er = limits-refused book (setRate year months) r true refl refl sixty refl (tests .0) (isWithinLimits (setRate year months)) refl (rw (← ey, y)) er
 
-  pub months-counted : m ≡ mean.Length → (book : Book) (r : Outcome) → r ≡ refusedOf book refusal.Count → DoesAnyhow book (asNumbers (setRate year months)) r
+  months-counted : m ≡ mean.Length → (book : Book) (r : Outcome) → r ≡ refusedOf book refusal.Count → DoesAnyhow book (asNumbers (setRate year months)) r
   months-counted e book r er = count-refused book (setRate year months) r true refl refl sixty refl (is-length sixty rates rate-of-months (sym em ∙ e)) er
 
-  pub months-limited : m ≡ mean.Limits → (book : Book) (r : Outcome) → r ≡ refusedOf book refusal.Limits → DoesAnyhow book (asNumbers (setRate year months)) r
+  months-limited : m ≡ mean.Limits → (book : Book) (r : Outcome) → r ≡ refusedOf book refusal.Limits → DoesAnyhow book (asNumbers (setRate year months)) r
   months-limited e book r er =
       let t = is-limits sixty rates rate-of-months (sym em ∙ e) in
       limits-refused book (setRate year months) r true refl refl sixty refl (t .0) (isWithinLimits (setRate year months)) refl (and-false (isYear year) rates (t .1)) er
+
+-- as code finds it where there is no rate
+pub months-refused : (year : ℕ) (months : List ℕ) (m : Mean) → m ≡ meanOf months → OneOf (1 ∷ 2 ∷ []) (tagOf the-type m) → (question : Refusal) → question ≡ refusalOf m → (book : Book) (r : Outcome) → r ≡ refusedOf book question → DoesAnyhow book (asNumbers (setRate year months)) r
+months-refused year months (mean.Is rate) em told question eq book r er = absurd (miss (1 ∷ 2 ∷ []) 0 tt told)
+months-refused year months mean.Length em told question eq book r er = months-counted year months mean.Length em refl book r (er ∙ rw eq)
+months-refused year months mean.Limits em told question eq book r er = months-limited year months mean.Limits em refl book r (er ∙ rw eq)
 
 -- question 7
 set-year : (year rate : ℕ) (months : List ℕ) → Averaged year rate months → isYear year ≡ true

@@ -1,4 +1,4 @@
--- A RATE that questions 4 and 6 let through, and its rate.
+-- RATE: its months, and one that questions 4 and 6 let through with its rate.
 -- Assumes nothing: these are definitions.
 use mathlib.Core.List.{List}
 use mathlib.Core.Path.{_≡_}
@@ -6,7 +6,18 @@ use Prim.Native.Nat.{ℕ}
 use Rattle.model.specs.Call.{setRate}
 use Rattle.model.specs.Question.{Sound}
 use Rattle.model.specs.Rate.{rateOf}
+use Rattle.factor.specs.declared.rate.Mean.{Mean}
+use Rattle.factor.specs.declared.rate.Mean.the-variants as mean
+use Rattle.ledger.specs.declared.answer.Refusal.{Refusal}
+use Rattle.ledger.specs.declared.answer.Refusal.the-variants as refusal
 
+-- questions 4 and 6 of the months, as `mean_rate` answers them
+abbrev pub refusalOf : Mean → Refusal
+refusalOf (mean.Is rate) = refusal.Limits
+refusalOf mean.Length = refusal.Count
+refusalOf mean.Limits = refusal.Limits
+
+-- a RATE that they let through
 pub record Averaged (year rate : ℕ) (months : List ℕ) : Type 0 where
   pub sound : Sound (setRate year months)
   pub mean : rate ≡ rateOf months

@@ -34,7 +34,7 @@ ghost use Rattle.kinds.specs.Rate.{rateNumber};
 ghost use Rattle.state.specs.View.{view};
 ghost use Rattle.ledger.specs.Does.{Does, Settled};
 ghost use Rattle.state.specs.Patterns.{slotOf, withPatternOf, written};
-ghost use Rattle.ledger.specs.AddPattern.{followsLast, patternOutcome, Turned};
+ghost use Rattle.ledger.specs.AddPattern.{followsLast, isFine, refusalOf, patternOutcome, Turned};
 
 // Questions 3, 4 and 6, and on.
 pub fn add_pattern(
@@ -133,23 +133,44 @@ fn ask_ratios(
 {
     let pattern = discount(letter, rate, paid, incurred);
     let verdict = pattern.verdict;
+    if is_fine(verdict) {
+        let factors = pattern.factors;
+        return keep_pattern(
+            book,
+            patterns,
+            line,
+            letter,
+            year,
+            factors,
+            pattern.composite,
+        );
+    }
+    refuse(book, refusal_of(verdict))
+}
+
+// Is no question about the lists answered no?
+fn is_fine(verdict: Verdict) -> bool
+    ensures { λ r. ⌜ r ≡ isFine verdict ⌝ }
+{
     match verdict {
-        Verdict::Fine => {
-            let factors = pattern.factors;
-            keep_pattern(
-                book,
-                patterns,
-                line,
-                letter,
-                year,
-                factors,
-                pattern.composite,
-            )
-        }
-        Verdict::Length => refuse(book, Refusal::Count),
-        Verdict::Limits => refuse(book, Refusal::Limits),
-        Verdict::Incurred => refuse(book, Refusal::Incurred),
-        Verdict::Falls => refuse(book, Refusal::Falls),
+        Verdict::Fine => true,
+        Verdict::Length => false,
+        Verdict::Limits => false,
+        Verdict::Incurred => false,
+        Verdict::Falls => false,
+    }
+}
+
+// The question about the lists that is answered no. (It is not asked for where none is.)
+fn refusal_of(verdict: Verdict) -> Refusal
+    ensures { λ r. ⌜ r ≡ refusalOf verdict ⌝ }
+{
+    match verdict {
+        Verdict::Fine => Refusal::Falls,
+        Verdict::Length => Refusal::Count,
+        Verdict::Limits => Refusal::Limits,
+        Verdict::Incurred => Refusal::Incurred,
+        Verdict::Falls => Refusal::Falls,
     }
 }
 

@@ -12,27 +12,35 @@ use state::book::Book;
 use state::rates::YearRate;
 use state::rates::rate_of;
 use state::rates::with_rate;
+ghost use mathlib.Core.Path.{_≡_};
 ghost use Rattle.model.specs.Call.{setRate};
 ghost use Rattle.model.specs.Step.{asNumbers};
 ghost use Rattle.kinds.specs.Rate.{rateNumber};
 ghost use Rattle.ledger.specs.Does.{SettledAnyhow, DoesAnyhow};
-ghost use Rattle.ledger.specs.SetRate.{Averaged};
+ghost use Rattle.ledger.specs.SetRate.{refusalOf, Averaged};
 
 // Questions 4 and 6, and on.
 pub fn set_rate(book: Book, year: u64, months: &[u64]) -> Outcome
     ensures { λ r. ⌜ DoesAnyhow book (asNumbers (setRate year (now (months .entry)))) r ⌝ }
 {
     let mean = mean_rate(months);
+    let Mean::Is(rate) = mean else {
+        return refuse(book, refusal_of(mean));
+    };
+    if is_year(year) {
+        return ask_given(book, year, rate, months);
+    }
+    refuse(book, Refusal::Limits)
+}
+
+// The question about the months that is answered no. (It is not asked for where none is.)
+fn refusal_of(mean: Mean) -> Refusal
+    ensures { λ r. ⌜ r ≡ refusalOf mean ⌝ }
+{
     match mean {
-        Mean::Is(rate) => {
-            if is_year(year) {
-                ask_given(book, year, rate, months)
-            } else {
-                refuse(book, Refusal::Limits)
-            }
-        }
-        Mean::Length => refuse(book, Refusal::Count),
-        Mean::Limits => refuse(book, Refusal::Limits),
+        Mean::Is(_) => Refusal::Limits,
+        Mean::Length => Refusal::Count,
+        Mean::Limits => Refusal::Limits,
     }
 }
 

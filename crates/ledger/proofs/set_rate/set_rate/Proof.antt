@@ -1,6 +1,6 @@
 -- `ledger::set_rate::set_rate` meets its contract. Assumes nothing.
 use borrow.Author.Needs.{needs}
-use Rattle.ledger.proofs.RateSet.{averaged, year-refused, months-counted, months-limited, rate-on}
+use Rattle.ledger.proofs.RateSet.{averaged, year-refused, months-refused, rate-on}
 use Rattle.ledger.proofs.set_rate.set_rate.Statement.{statement}
 use Rattle.ledger.proofs.set_rate.set_rate.Tie as tie
 
@@ -10,38 +10,29 @@ mean-rate-requires c κs = search needs
 enum-known-mean : tie.Need-enum-known-mean
 enum-known-mean c = search needs
 
+refusal-of-requires : tie.Need-refusal-of-requires
+refusal-of-requires c κs = search needs
+
+refuse-requires : tie.Need-refuse-requires
+refuse-requires c κs = search needs
+
+returns : tie.Need-returns
+returns c = search (months-refused, c .before .before .match .keys2)
+
 is-year-requires : tie.Need-is-year-requires
 is-year-requires c κs = search needs
 
 ask-given-requires : tie.Need-ask-given-requires
 ask-given-requires c κs = search averaged
 
-refuse-requires : tie.Need-refuse-requires
-refuse-requires c κs = search needs
-
-enum-told : tie.Need-enum-told
-enum-told c = search needs
+returns-2 : tie.Need-returns-2
+returns-2 c = search rate-on
 
 refuse-requires-2 : tie.Need-refuse-requires-2
 refuse-requires-2 c κs = search needs
 
-enum-told-2 : tie.Need-enum-told-2
-enum-told-2 c = search needs
-
-refuse-requires-3 : tie.Need-refuse-requires-3
-refuse-requires-3 c κs = search needs
-
-returns : tie.Need-returns
-returns c = search rate-on
-
-returns-2 : tie.Need-returns-2
-returns-2 c = search year-refused
-
 returns-3 : tie.Need-returns-3
-returns-3 c = search months-counted
-
-returns-4 : tie.Need-returns-4
-returns-4 c = search months-limited
+returns-3 c = search year-refused
 
 pub set-rate-spec : {M : Type 1} → statement M
 set-rate-spec =
@@ -49,14 +40,11 @@ set-rate-spec =
     (tie.spec
     mean-rate-requires
     enum-known-mean
+    refusal-of-requires
+    refuse-requires
+    returns
     is-year-requires
     ask-given-requires
-    refuse-requires
-    enum-told
-    refuse-requires-2
-    enum-told-2
-    refuse-requires-3
-    returns
     returns-2
-    returns-3
-    returns-4)
+    refuse-requires-2
+    returns-3)
