@@ -15,7 +15,7 @@ use Rattle.model.specs.Step.{asBytes, asNumbers}
 use Rattle.record.specs.declared.request.Request.{Request}
 use Rattle.record.specs.declared.request.Verdict.{Verdict}
 use Rattle.record.specs.declared.request.Verdict.the-variants as verdict
-use Rattle.record.specs.Request.{refusedAt, saying, says, readOf}
+use Rattle.record.specs.Request.{refusedAt, patternCall, yearCall, saying, says, readOf}
 use Rattle.record.proofs.request.Verdict.{the-type}
 use Rattle.record.proofs.Answers.{said}
 use Rattle.state.specs.declared.book.Book.{Book}
@@ -24,7 +24,7 @@ use Rattle.ledger.specs.declared.answer.Outcome.{Outcome}
 use Rattle.state.specs.View.{view}
 use Rattle.ledger.specs.Answer.{numberOf, refusedOf}
 use Rattle.ledger.specs.Does.{Does, DoesAnyhow}
-use Rattle.journal.specs.Apply.{refusalOf, patternCall, yearCall}
+use Rattle.journal.specs.Apply.{refusalOf}
 use Rattle.journal.proofs.LineQuestions.{line-refused, line-asks}
 
 -- what is no call is a refusal

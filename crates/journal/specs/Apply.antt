@@ -1,19 +1,15 @@
--- The calls of a PATT and of a YEAR that were read, and a whole input.
+-- The refusals of a record that was read, and a whole input.
 -- Assumes nothing: these are definitions.
 use mathlib.Core.List.{List, [], _∷_}
 use mathlib.Core.Path.{_≡_}
-use Prim.Native.Nat.{ℕ, suc}
-use lib.ListN.{take}
-use Rattle.model.specs.Letter.{ages}
+use Prim.Native.Nat.{ℕ}
 use Rattle.model.specs.Book as model
-use Rattle.model.specs.Call.{Call, addPattern, closeYear}
 use Rattle.model.specs.Question.{firstNo}
 use Rattle.model.specs.Step as model-step
 use Rattle.model.specs.Step.{asked, questions, step}
 use Rattle.model.specs.Run.{after, recordsOf}
 use Rattle.model.specs.History.{accepted}
 use Rattle.model.specs.Demand.{Holds}
-use Rattle.record.specs.declared.request.Request.{Request}
 use Rattle.record.specs.declared.request.Verdict.{Verdict}
 use Rattle.record.specs.declared.request.Verdict.the-variants as verdict
 use Rattle.state.specs.declared.book.Book.{Book}
@@ -34,13 +30,6 @@ refusalOf verdict.Declare = refusal.Limits
 refusalOf verdict.SetRate = refusal.Limits
 refusalOf verdict.AddPattern = refusal.Limits
 refusalOf verdict.CloseYear = refusal.Limits
-
-abbrev pub patternCall : Request → Call
-patternCall r = addPattern (r .letter) (r .year) (take (ages (r .letter)) (r .paid)) (take (ages (r .letter)) (r .incurred))
-
-abbrev pub yearCall : Request → Call
-yearCall r =
-    closeYear (r .letter) (r .year) (take (suc (ages (r .letter))) (r .payments)) (take (suc (ages (r .letter))) (r .unpaid)) (take (suc (ages (r .letter))) (r .tabular))
 
 -- the lent list after a list of requests
 unfoldable pub slotsAfterAll : model.Book → List model-step.Request → List ℕ → List ℕ

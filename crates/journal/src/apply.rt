@@ -14,9 +14,10 @@ use state::book::Book;
 use state::book::Patterns;
 ghost use mathlib.Core.Path.{_≡_};
 ghost use Rattle.model.specs.Step.{asBytes, asNumbers};
+ghost use Rattle.record.specs.Request.{patternCall, yearCall};
 ghost use Rattle.state.specs.View.{view};
 ghost use Rattle.ledger.specs.Does.{Does};
-ghost use Rattle.journal.specs.Apply.{refusalOf, patternCall, yearCall};
+ghost use Rattle.journal.specs.Apply.{refusalOf};
 
 // "Questions put to a record, in this order": 1 to 6 by the reader, which answers a call with numbers, and then those of the call.
 pub fn apply(book: Book, patterns: &mut Patterns, line: &[u8]) -> Outcome

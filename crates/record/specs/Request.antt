@@ -42,7 +42,15 @@ empty verdict =
       tabular = replicate 11 0;
     }
 
--- each case's number in document 01, or its call: of a line's ages, ten or two, and one row more
+-- the calls of a PATT and of a YEAR: of a line's ages, ten or two, and one row more
+abbrev pub patternCall : Request → Call
+patternCall r = addPattern (r .letter) (r .year) (take (ages (r .letter)) (r .paid)) (take (ages (r .letter)) (r .incurred))
+
+abbrev pub yearCall : Request → Call
+yearCall r =
+    closeYear (r .letter) (r .year) (take (suc (ages (r .letter))) (r .payments)) (take (suc (ages (r .letter))) (r .unpaid)) (take (suc (ages (r .letter))) (r .tabular))
+
+-- each case's number in document 01, or its call
 abbrev pub saying : Verdict → Request → Read
 saying Long r = refusedAt 1
 saying Word r = refusedAt 2
@@ -52,9 +60,8 @@ saying Writing r = refusedAt 5
 saying Limits r = refusedAt 6
 saying Declare r = asks (declare (r .letter) (r .opening))
 saying SetRate r = asks (setRate (r .year) (r .months))
-saying AddPattern r = asks (addPattern (r .letter) (r .year) (take (ages (r .letter)) (r .paid)) (take (ages (r .letter)) (r .incurred)))
-saying CloseYear r =
-    asks (closeYear (r .letter) (r .year) (take (suc (ages (r .letter))) (r .payments)) (take (suc (ages (r .letter))) (r .unpaid)) (take (suc (ages (r .letter))) (r .tabular)))
+saying AddPattern r = asks (patternCall r)
+saying CloseYear r = asks (yearCall r)
 
 abbrev pub says : Request → Read
 says r = saying (r .verdict) r
