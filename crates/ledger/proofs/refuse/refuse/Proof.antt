@@ -7,7 +7,7 @@ one-more-requires : tie.Need-one-more-requires
 one-more-requires c κs = search needs
 
 returns : tie.Need-returns
-returns c = cc
+returns c = rw (c .one-more .ensures)
 
 pub refuse-spec : {M : Type 1} → statement M
 refuse-spec = tie.close (tie.spec one-more-requires returns)

@@ -1,4 +1,5 @@
 -- `state::patterns::factor_in` meets its contract. Assumes nothing.
+use mathlib.Core.Path.{sym, _∙_}
 use borrow.Author.Needs.{needs}
 use Rattle.state.proofs.Writes.{slot-read, no-slot, past-slot}
 use Rattle.state.proofs.patterns.factor_in.Statement.{statement}
@@ -11,7 +12,7 @@ is-covered-requires : tie.Need-is-covered-requires
 is-covered-requires c κs = search needs
 
 slot-of-requires : tie.Need-slot-of-requires
-slot-of-requires c κs = cc
+slot-of-requires c κs = sym (c .before .is-covered .ensures) ∙ c .if2 .taken
 
 mul-at : tie.Need-mul-at
 mul-at c = search needs

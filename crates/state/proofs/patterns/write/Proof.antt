@@ -1,4 +1,5 @@
 -- `state::patterns::write` meets its contract. Assumes nothing.
+use mathlib.Core.Path.{sym, _∙_}
 use borrow.Author.Needs.{needs}
 use Rattle.state.proofs.Writes.{slot-stored, nothing-stored}
 use Rattle.state.proofs.patterns.write.Statement.{statement}
@@ -8,7 +9,7 @@ is-covered-requires : tie.Need-is-covered-requires
 is-covered-requires c κs = search needs
 
 slot-of-requires : tie.Need-slot-of-requires
-slot-of-requires c κs = cc
+slot-of-requires c κs = sym (c .before .is-covered .ensures) ∙ c .if1 .taken
 
 mul-start : tie.Need-mul-start
 mul-start c = search needs
