@@ -20,7 +20,6 @@ fn stored_inputs() {
     for name in NAMES {
         check(&stored_input(name).expect("a program's name"), name);
     }
-    check(include_bytes!("../../crates/test_journal/stdin"), "journal");
     check(include_bytes!("../../crates/test_records/stdin"), "records");
 }
 
