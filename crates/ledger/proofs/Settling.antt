@@ -8,19 +8,25 @@ use Prim.Native.Nat.{ℕ}
 use Rattle.model.specs.Book as model
 use Rattle.model.specs.Call.{Call}
 use Rattle.model.specs.Question.{Sound, hasLetter, hasLengths, isWithinLimits, callQuestions, bookQuestions, firstNo}
-use Rattle.model.specs.Step.{Request, asNumbers, asked, questions, refuse, step}
+use Rattle.model.specs.Step.{Request, asNumbers, asked, questions, oneMore, refuse, step}
 use Rattle.state.specs.declared.book.Book.{Book}
 use Rattle.ledger.specs.declared.answer.Refusal.{Refusal}
 use Rattle.ledger.specs.declared.answer.Refusal.the-variants.{Letter, Count, Limits}
+use Rattle.ledger.specs.declared.answer.Answer.the-variants.{No}
 use Rattle.ledger.specs.declared.answer.Outcome.{Outcome}
 use Rattle.state.specs.View.{view}
-use Rattle.ledger.specs.Answer.{numberOf, refusedOf}
+use Rattle.ledger.specs.Answer.{numberOf, nothing, refusedOf}
 use Rattle.ledger.specs.Does.{slotsAfter, Settles, Settled, Does, SettledAnyhow, DoesAnyhow}
 
 -- a request by its first question answered no
 pub does : (book : model.Book) (request : Request) (slots : List ℕ) (r : Outcome) (later : List ℕ) (first : Option ℕ) → firstNo (questions book request) ≡ first → Settles first book (asked request) slots r later → Does book request slots r later
 unfolding step
 does book request slots r later first e s = record { outcome = rw e (s .outcome); lent = rw e (s .lent); whole = rw e (s .whole) }
+
+-- as code counts a refusal
+pub refusal-counted : (book : Book) (question : Refusal) (n : ℕ) → n ≡ oneMore (book .refused)
+    → _≡_ {A = Outcome} (record { book = record { rates = book .rates; lines = book .lines; accepted = book .accepted; refused = n }; answer = No question; published = nothing }) (refusedOf book question)
+refusal-counted book question n e = rw e
 
 -- a refusal leaves the book but for its count, and the lent list
 pub refused : (book : Book) (question : Refusal) (first : Option ℕ) (call : Call) (slots : List ℕ) (r : Outcome) → first ≡ some (numberOf question) → r ≡ refusedOf book question → Settles first (view book slots) call slots r slots
