@@ -1,11 +1,4 @@
+pub mod Conditions
 pub mod Declared
-pub mod PatternAdded
-pub mod PatternAsked
-pub mod Publishing
 pub mod RateSet
-pub mod RowLoops
-pub mod RowPatterns
 pub mod Settling
-pub mod Turns
-pub mod YearAsked
-pub mod YearClosed

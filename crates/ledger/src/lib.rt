@@ -1,9 +1,6 @@
-// The book's calls: `declare`, `set_rate`, `add_pattern` and `close_year` are LINE, RATE, PATT and YEAR with numbers; `refuse` is a record that no call is made of.
-mod accept;
-pub mod add_pattern;
+// What every call answers and counts, and the calls of LINE and RATE with numbers; `refuse` is a record that no call is made of.
+pub mod accept;
 pub mod answer;
-pub mod close_year;
 pub mod declare;
 pub mod refuse;
-mod rows;
 pub mod set_rate;

@@ -1,0 +1,5 @@
+pub mod RowLoops
+pub mod RowPatterns
+pub mod Turns
+pub mod YearAsked
+pub mod YearClosed

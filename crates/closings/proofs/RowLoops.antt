@@ -1,0 +1,103 @@
+-- The rows of a year, as the code goes through them: how far its loops are, and what they leave.
+-- Assumes nothing.
+use mathlib.Core.Bool.{true, false, _&&_}
+use mathlib.Core.List.{List, [], _∷_}
+use mathlib.Core.Logic.{⊎-elim}
+use mathlib.Core.Path.{_≡_, refl, _∙_}
+use Prim.Native.Nat.{ℕ, zero, suc, _+_, _-_, _≤_, _<_, min}
+use native.Mathlib.Nat.{eq-or-lt-of-le}
+use native.Mathlib.Numerals.{add-one}
+use native.Mathlib.Omega.{arith}
+use borrow.Author.Tests.{eq-eqb, ne-eqb, lt-ltb, le-ltb}
+use lib.Dec.{eqb}
+use lib.ListN.{length, take, getD, set, replicate, length-take, length-set, drop-of-length-le}
+use lib.Seq.{getD-set-same, getD-set-other}
+use Rattle.model.specs.Letter.{ages}
+use Rattle.model.proofs.Ages.{ages-small}
+use Rattle.reserve.specs.Lists.{statedRows}
+use Rattle.state.specs.declared.book.Line.{Line}
+use Rattle.state.specs.Patterns.{factorAt, keptCount}
+use Rattle.closings.specs.Rows.{Paired, havePatterns, rowFactorOf, FactorsOf}
+
+-- question 13, one row more, and no more rows
+have-next : (k n : ℕ) (unpaid tabular : List ℕ) → k < n → k < length unpaid → k < length tabular
+    → havePatterns k n unpaid tabular ≡ eqb (getD unpaid k 0 + getD tabular k 0) 0 && havePatterns (suc k) n unpaid tabular
+unfolding havePatterns
+have-next k zero unpaid tabular lt in-unpaid in-tabular = absurd (omega arith)
+have-next k (suc n) [] tabular lt in-unpaid in-tabular = absurd (omega arith)
+have-next k (suc n) (u ∷ unpaid) [] lt in-unpaid in-tabular = absurd (omega arith)
+have-next zero (suc n) (u ∷ unpaid) (t ∷ tabular) lt in-unpaid in-tabular = refl
+have-next (suc k) (suc n) (u ∷ unpaid) (t ∷ tabular) lt in-unpaid in-tabular = have-next k n unpaid tabular (omega arith) (omega arith) (omega arith)
+
+have-end : (k n : ℕ) (unpaid tabular : List ℕ) → n ≤ k → havePatterns k n unpaid tabular ≡ true
+unfolding havePatterns
+have-end k n unpaid tabular le =
+    rw (drop-of-length-le (take n (statedRows unpaid tabular)) {i = k} (omega (arith, length-take n (statedRows unpaid tabular))))
+
+-- of n age rows, those from the first one without a pattern to before place k have no gross
+pub record Asked (unpaid tabular : List ℕ) (n first k : ℕ) : Type 0 where
+  pub inside-unpaid : n ≤ length unpaid
+  pub inside-tabular : n ≤ length tabular
+  pub rest : havePatterns first n unpaid tabular ≡ havePatterns k n unpaid tabular
+
+pub ask-start : (letter : ℕ) (unpaid tabular : List ℕ) (n first : ℕ) → Paired letter unpaid tabular → n ≡ ages letter → Asked unpaid tabular n first first
+ask-start letter unpaid tabular n first paired en = record { inside-unpaid = omega arith; inside-tabular = omega arith; rest = refl }
+
+module _ (unpaid tabular : List ℕ) (n first k : ℕ) (a : Asked unpaid tabular n first k) where
+  next : k < n → havePatterns first n unpaid tabular ≡ eqb (getD unpaid k 0 + getD tabular k 0) 0 && havePatterns (suc k) n unpaid tabular
+  next lt = a .rest ∙ have-next k n unpaid tabular lt (omega arith) (omega arith)
+
+  pub ask-on : (g : ℕ) → k < n → g ≡ min (getD unpaid k 0) 10000000000 + min (getD tabular k 0) 10000000000 → g ≤ 0 → Asked unpaid tabular n first (k + 1)
+  ask-on g lt eg no-gross =
+      record {
+        inside-unpaid = a .inside-unpaid;
+        inside-tabular = a .inside-tabular;
+        rest = next lt ∙ rw (eq-eqb (getD unpaid k 0 + getD tabular k 0) 0 (omega arith), add-one);
+      }
+
+  module _ (letter : ℕ) (line : Line) (en : n ≡ ages letter) (ef : first ≡ keptCount letter line) where
+    pub ask-stop : (g : ℕ) → k < n → g ≡ min (getD unpaid k 0) 10000000000 + min (getD tabular k 0) 10000000000 → 0 < g
+        → false ≡ havePatterns (keptCount letter line) (ages letter) unpaid tabular
+    ask-stop g lt eg some-gross = rw (← en, ← ef, next lt, ne-eqb (getD unpaid k 0 + getD tabular k 0) 0 (λ e. omega arith))
+
+    pub ask-end : n ≤ k → true ≡ havePatterns (keptCount letter line) (ages letter) unpaid tabular
+    ask-end le = rw (← en, ← ef, a .rest, have-end k n unpaid tabular le)
+
+-- a row's factor, by the code's counts of ages and of kept patterns
+module _ (slots : List ℕ) (letter : ℕ) (line : Line) (k n kept r : ℕ) (en : n ≡ ages letter) (ek : kept ≡ keptCount letter line) where
+  pub factor-kept : k < n → k < kept → r ≡ factorAt slots letter (line .last - k) k → r ≡ rowFactorOf slots letter line k
+  factor-kept lt lk e = rw (← en, ← ek, lt-ltb k n lt, lt-ltb k kept lk) e
+
+  pub factor-missing : k < n → kept ≤ k → r ≡ 0 → r ≡ rowFactorOf slots letter line k
+  factor-missing lt le e = rw (← en, ← ek, lt-ltb k n lt, le-ltb k kept le) e
+
+  pub factor-prior : n ≤ k → r ≡ factorAt slots letter (line .last) 10 → r ≡ rowFactorOf slots letter line k
+  factor-prior le e = rw (← en, le-ltb k n le) e
+
+-- the factors before place k are written
+pub record Filled (slots : List ℕ) (letter : ℕ) (line : Line) (factors : List ℕ) (k : ℕ) : Type 0 where
+  pub places : length factors ≡ 11
+  pub few : ages letter ≤ 10
+  pub inside : k ≤ suc (ages letter)
+  pub each : (j : ℕ) → j < k → getD factors j 0 ≡ rowFactorOf slots letter line j
+
+pub fill-start : (slots : List ℕ) (letter : ℕ) (line : Line) → Filled slots letter line (replicate 11 0) 0
+fill-start slots letter line = record { places = refl; few = ages-small letter; inside = omega arith; each = λ j lt. absurd (omega arith) }
+
+module _ (slots : List ℕ) (letter : ℕ) (line : Line) (factors : List ℕ) (k n : ℕ) (en : n ≡ ages letter) (f : Filled slots letter line factors k) where
+  pub fill-on : (r : ℕ) → k ≤ n → r ≡ rowFactorOf slots letter line k → Filled slots letter line (set factors k r) (k + 1)
+  fill-on r le e =
+      let free : k < length factors = omega (arith, f .places, f .few) in
+      record {
+        places = length-set factors k r ∙ f .places;
+        few = f .few;
+        inside = omega arith;
+        each = λ j lt.
+            ⊎-elim
+            (λ (same : j ≡ k). rw same (getD-set-same factors k r 0 free ∙ e))
+            (λ (before : j < k). getD-set-other factors k j r 0 (λ z. omega arith) ∙ f .each j before)
+            (eq-or-lt-of-le {n = j} {m = k} (omega arith));
+      }
+
+  pub fill-end : n < k → FactorsOf slots letter line factors
+  fill-end lt = record { each = λ j le. f .each j (omega arith) }

@@ -1,0 +1,39 @@
+-- What YEAR's questions ask of the code's line, and what an accepted one leaves.
+-- Assumes nothing: these are definitions.
+use mathlib.Core.Bool.{Bool, true, false, not}
+use mathlib.Core.List.{List}
+use mathlib.Core.Path.{_≡_}
+use Prim.Native.Nat.{ℕ, min}
+use lib.Dec.{eqb}
+use lib.IntN.{ℤ}
+use Rattle.model.specs.Basics.{if_then_else_}
+use Rattle.model.specs.Kind.{isYear}
+use Rattle.model.specs.Letter.{ages}
+use Rattle.model.specs.Call.{closeYear}
+use Rattle.model.specs.Question.{Sound}
+use Rattle.state.specs.declared.book.Book.{Book}
+use Rattle.state.specs.declared.book.Line.{Line}
+use Rattle.state.specs.Lines.{lineAt}
+use Rattle.state.specs.Patterns.{keptCount}
+use Rattle.closings.specs.Rows.{havePatterns}
+
+-- question 10
+unfoldable pub isDue : ℕ → Line → ℕ → Bool
+isDue letter line year =
+    if eqb (keptCount letter line) 0 then false else
+    (if eqb year (line .last) then (if isYear (line .closed) then not (eqb (line .closed) year) else true) else false)
+
+abbrev pub openingOf : Line → ℕ
+openingOf line = if isYear (line .closed) then min (line .closing) 110000000000 else min (line .opening) 100000000000
+
+-- a YEAR that questions 3 to 10 let through
+pub record Turned (book : Book) (line : Line) (letter year : ℕ) (paid : List ℤ) (unpaid tabular : List ℕ) : Type 0 where
+  pub sound : Sound (closeYear letter year paid unpaid tabular)
+  pub here : line ≡ lineAt book letter
+  pub declared : line .declared ≡ true
+  pub due : isDue letter line year ≡ true
+
+-- and question 13
+pub record Passed (book : Book) (line : Line) (letter year : ℕ) (paid : List ℤ) (unpaid tabular : List ℕ) : Type 0 where
+  pub turned : Turned book line letter year paid unpaid tabular
+  pub patterns : havePatterns (keptCount letter line) (ages letter) unpaid tabular ≡ true

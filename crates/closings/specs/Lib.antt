@@ -1,0 +1,2 @@
+pub mod CloseYear
+pub mod Rows

@@ -1,0 +1,176 @@
+// "YEAR, letter, year, then paid, unpaid, tabular for each age, prior row last"
+use crate::rows::have_patterns;
+use crate::rows::row_factors;
+use kinds::closing::Closing;
+use kinds::letter::is_covered;
+use kinds::opening::Opening;
+use kinds::year::is_year;
+use ledger::accept::accept;
+use ledger::answer::Answer;
+use ledger::answer::Outcome;
+use ledger::answer::Refusal;
+use ledger::refuse::refuse;
+use reserve::questions::has_lengths;
+use reserve::questions::has_limits;
+use reserve::year_end::year_end;
+use state::book::Book;
+use state::book::Line;
+use state::book::Patterns;
+use state::lines::line_of;
+use state::lines::with_line;
+use state::patterns::kept_count;
+ghost use mathlib.Core.Bool.{true};
+ghost use mathlib.Core.Path.{_≡_};
+ghost use Rattle.model.specs.Call.{closeYear};
+ghost use Rattle.model.specs.Question.{Sound};
+ghost use Rattle.model.specs.Step.{asNumbers};
+ghost use Rattle.state.specs.View.{view};
+ghost use Rattle.ledger.specs.Does.{Does, Settled};
+ghost use Rattle.state.specs.Lines.{withClosingOf};
+ghost use Rattle.closings.specs.CloseYear.{isDue, openingOf, Turned, Passed};
+
+// Questions 3, 4 and 6, and on.
+pub fn close_year(
+    book: Book,
+    patterns: &Patterns,
+    letter: u8,
+    year: u64,
+    paid: &[i64],
+    unpaid: &[u64],
+    tabular: &[u64],
+) -> Outcome
+    ensures { λ r. ⌜ Does (view book (now (patterns .entry))) (asNumbers (closeYear letter year (now (paid .entry)) (now (unpaid .entry)) (now (tabular .entry)))) (now (patterns .entry)) r (now (patterns .entry)) ⌝ }
+{
+    if is_covered(letter) {
+        if has_lengths(letter, paid, unpaid, tabular) {
+            if is_year(year) {
+                if has_limits(paid, unpaid, tabular) {
+                    return ask_declared(book, patterns, letter, year, paid, unpaid, tabular);
+                }
+                return refuse(book, Refusal::Limits);
+            }
+            return refuse(book, Refusal::Limits);
+        }
+        return refuse(book, Refusal::Count);
+    }
+    refuse(book, Refusal::Letter)
+}
+
+// "8. PATT, YEAR: is the line declared?" "10. .. YEAR: is it the year of the last pattern, not yet closed?", and on.
+fn ask_declared(
+    book: Book,
+    patterns: &Patterns,
+    letter: u8,
+    year: u64,
+    paid: &[i64],
+    unpaid: &[u64],
+    tabular: &[u64],
+) -> Outcome
+    requires { ⌜ Sound (closeYear letter year (now paid) (now unpaid) (now tabular)) ⌝ }
+    ensures { λ r. ⌜ Settled (view book (now (patterns .entry))) (closeYear letter year (now (paid .entry)) (now (unpaid .entry)) (now (tabular .entry))) (now (patterns .entry)) r (now (patterns .entry)) ⌝ }
+{
+    let line = line_of(book, letter);
+    if line.declared {
+        if is_due(letter, line, year) {
+            return ask_patterns(book, patterns, line, letter, year, paid, unpaid, tabular);
+        }
+        return refuse(book, Refusal::Turn);
+    }
+    refuse(book, Refusal::Declared)
+}
+
+// "is it the year of the last pattern, not yet closed?"
+fn is_due(letter: u8, line: Line, year: u64) -> bool
+    ensures { λ r. ⌜ r ≡ isDue letter line year ⌝ }
+{
+    if kept_count(letter, line) == 0 {
+        return false;
+    }
+    if year == line.last {
+        if is_year(line.closed) {
+            return line.closed != year;
+        }
+        return true;
+    }
+    false
+}
+
+// "13. YEAR: has every age row with gross above 0 a kept pattern?", and the year end.
+fn ask_patterns(
+    book: Book,
+    patterns: &Patterns,
+    line: Line,
+    letter: u8,
+    year: u64,
+    paid: &[i64],
+    unpaid: &[u64],
+    tabular: &[u64],
+) -> Outcome
+    requires { ⌜ Turned book line letter year (now paid) (now unpaid) (now tabular) ⌝ }
+    ensures { λ r. ⌜ Settled (view book (now (patterns .entry))) (closeYear letter year (now (paid .entry)) (now (unpaid .entry)) (now (tabular .entry))) (now (patterns .entry)) r (now (patterns .entry)) ⌝ }
+{
+    if have_patterns(letter, line, unpaid, tabular) {
+        return end_year(book, patterns, line, letter, year, paid, unpaid, tabular);
+    }
+    refuse(book, Refusal::Pattern)
+}
+
+// The closing kept, and the tax-basis loss.
+fn end_year(
+    book: Book,
+    patterns: &Patterns,
+    line: Line,
+    letter: u8,
+    year: u64,
+    paid: &[i64],
+    unpaid: &[u64],
+    tabular: &[u64],
+) -> Outcome
+    requires { ⌜ Passed book line letter year (now paid) (now unpaid) (now tabular) ⌝ }
+    ensures { λ r. ⌜ Settled (view book (now (patterns .entry))) (closeYear letter year (now (paid .entry)) (now (unpaid .entry)) (now (tabular .entry))) (now (patterns .entry)) r (now (patterns .entry)) ⌝ }
+{
+    let factors = row_factors(patterns, letter, line);
+    let opening = opening_of(line);
+    let before = Closing { value: opening };
+    let end = year_end(letter, paid, unpaid, tabular, &factors, before);
+    let closing = end.closing;
+    let later = with_line(book, letter, with_closing(line, year, closing));
+    accept(
+        later,
+        Answer::Tax {
+            letter,
+            year,
+            paid: end.paid,
+            opening,
+            closing,
+            loss: end.loss,
+        },
+        [0; 11],
+    )
+}
+
+// "Opening is the last closing, or the declared opening."
+fn opening_of(line: Line) -> u64
+    ensures { λ r. ⌜ r ≡ openingOf line ⌝ }
+{
+    if is_year(line.closed) {
+        let last = Closing {
+            value: line.closing,
+        };
+        return last.number();
+    }
+    let declared = Opening {
+        value: line.opening,
+    };
+    declared.number()
+}
+
+// The line with one more year closed.
+fn with_closing(line: Line, year: u64, closing: u64) -> Line
+    ensures { λ r. ⌜ r ≡ withClosingOf line year closing ⌝ }
+{
+    let mut later = line;
+    later.closed = year;
+    later.closing = closing;
+    later
+}

@@ -1,0 +1,4 @@
+pub mod PatternAdded
+pub mod PatternAsked
+pub mod Publishing
+pub mod Turns

@@ -1,0 +1,117 @@
+-- PATT: its questions, and what an accepted one leaves.
+-- Assumes nothing.
+use mathlib.Core.Bool.{Bool, true, false, _&&_}
+use mathlib.Core.List.{List}
+use mathlib.Core.Path.{_≡_, refl, sym, ap, _∙_}
+use mathlib.Core.Option.{none, some}
+use Prim.Native.Nat.{ℕ}
+use native.Mathlib.Omega.{arith}
+use Rattle.model.specs.Basics.{if_then_else_, given, all}
+use Rattle.model.specs.Kind.{isYear, isAmount}
+use Rattle.model.specs.Letter.{covered}
+use Rattle.model.specs.Pattern.{agesOf}
+use Rattle.model.specs.Tail.{schedule}
+use Rattle.model.specs.Call.{Call, addPattern}
+use Rattle.model.specs.Question.{Sound, hasLengths, isWithinLimits, hasIncurred, climbs, bookQuestions, firstNo}
+use Rattle.model.specs.Step.{asNumbers}
+use Rattle.model.proofs.Lists.{true≢false}
+use Rattle.kinds.specs.declared.rate.Rate.{Rate}
+use Rattle.kinds.specs.Rate.{rateNumber}
+use Rattle.factor.specs.declared.pattern.Pattern.{Pattern}
+use Rattle.factor.specs.declared.pattern.Verdict.the-variants as verdict
+use Rattle.factor.specs.Pattern as factor
+use Rattle.factor.specs.Pattern.{keptOf, patternOf}
+use Rattle.state.specs.declared.book.Book.{Book}
+use Rattle.state.specs.declared.book.Line.{Line}
+use Rattle.ledger.specs.declared.answer.Refusal.{Refusal}
+use Rattle.ledger.specs.declared.answer.Refusal.the-variants as refusal
+use Rattle.ledger.specs.declared.answer.Outcome.{Outcome}
+use Rattle.state.specs.declared.rates.YearRate.{YearRate}
+use Rattle.state.specs.declared.rates.YearRate.the-variants as year-rate
+use Rattle.state.specs.Rates.{ratesOf, yearRate}
+use Rattle.state.specs.Lines.{lineAt}
+use Rattle.state.specs.View.{view}
+use Rattle.ledger.specs.Answer.{numberOf, refusedOf}
+use Rattle.ledger.specs.Does.{Settled, Does}
+use Rattle.patterns.specs.AddPattern.{followsLast, isFine, refusalOf, Turned}
+use Rattle.ledger.proofs.Settling.{refused, goes-on-does}
+use Rattle.state.proofs.Views.{line-is, declared-is}
+use Rattle.patterns.proofs.Turns.{follows-is}
+
+-- questions 3, 4 and 6
+module _ (letter year : ℕ) (paid incurred : List ℕ) (lettered : Bool) (el : lettered ≡ covered letter) (l : lettered ≡ true)
+    (counted : Bool) (ec : counted ≡ hasLengths (addPattern letter 0 paid incurred)) (n : counted ≡ true) (limited : Bool) (em : limited ≡ isWithinLimits (addPattern 0 year paid incurred)) where
+  pub pattern-sound : limited ≡ true → Sound (addPattern letter year paid incurred)
+  pattern-sound m = record { letter = sym el ∙ l; lengths = sym ec ∙ n; limits = sym em ∙ m }
+
+  pub pattern-on : limited ≡ true → (book : Book) (slots later : List ℕ) (r : Outcome) → Settled (view book slots) (addPattern letter year paid incurred) slots r later → Does (view book slots) (asNumbers (addPattern letter year paid incurred)) slots r later
+  pattern-on m book slots later r h = goes-on-does (view book slots) (addPattern letter year paid incurred) slots r later (pattern-sound m) h
+
+-- questions 8 to 12, by the code's line
+module _ (book : Book) (letter year : ℕ) (paid incurred : List ℕ) (sound : Sound (addPattern letter year paid incurred)) (line : Line) (here : line ≡ lineAt book letter) where
+  abbrev call : Call
+  call = addPattern letter year paid incurred
+
+  first-is : (slots : List ℕ) → firstNo (bookQuestions (view book slots) call)
+      ≡ (if line .declared then (if given (ratesOf (book .rates) year) then (if followsLast letter line year then (if hasIncurred call then (if climbs call then none else some 12) else some 11) else some 10) else some 9) else some 8)
+  unfolding bookQuestions
+  first-is slots = rw (declared-is book slots letter line here, line-is book slots letter, ← here, follows-is slots letter line year)
+
+  module _ (slots : List ℕ) (r : Outcome) where
+    pub undeclared : line .declared ≡ false → r ≡ refusedOf book refusal.Declared → Settled (view book slots) call slots r slots
+    undeclared d er = refused book refusal.Declared (firstNo (bookQuestions (view book slots) call)) call slots r (first-is slots ∙ rw d) er
+
+    module _ (d : line .declared ≡ true) (rate : YearRate) (erate : yearRate rate ≡ ratesOf (book .rates) year) where
+      pub unrated : rate ≡ year-rate.Missing → r ≡ refusedOf book refusal.Rate → Settled (view book slots) call slots r slots
+      unrated e er =
+          refused book refusal.Rate (firstNo (bookQuestions (view book slots) call)) call slots r (first-is slots ∙ rw (d, ← erate, e)) er
+
+      module _ (number : Rate) (e : rate ≡ year-rate.Given number) (follows : Bool) (ef : follows ≡ followsLast letter line year) where
+        pub out-of-turn : follows ≡ false → r ≡ refusedOf book refusal.Turn → Settled (view book slots) call slots r slots
+        out-of-turn f er =
+            refused book refusal.Turn (firstNo (bookQuestions (view book slots) call)) call slots r (first-is slots ∙ rw (← ef, f, ← erate, e, d)) er
+
+  pub turned : line .declared ≡ true → (rate : YearRate) → yearRate rate ≡ ratesOf (book .rates) year → (number : Rate) → rate ≡ year-rate.Given number → (follows : Bool) → follows ≡ followsLast letter line year → follows ≡ true → Turned book line letter year (rateNumber number) paid incurred
+  turned d rate erate number e follows ef f = record { sound = sound; here = here; declared = d; rated = sym erate ∙ ap yearRate e; turn = sym ef ∙ f }
+
+-- questions 11 and 12, by what `discount` answers
+abbrev judged : Bool → Bool → Pattern → Pattern
+judged a b p = if a then (if b then p else factor.refused verdict.Falls) else factor.refused verdict.Incurred
+
+judged-fine : (a b : Bool) (p : Pattern) → isFine (judged a b p .verdict) ≡ true → (a ≡ true) × (b ≡ true)
+judged-fine true true p e = (refl, refl)
+judged-fine true false p e = absurd (true≢false (sym e))
+judged-fine false b p e = absurd (true≢false (sym e))
+
+judged-refused : (a b : Bool) (p : Pattern) → p .verdict ≡ verdict.Fine → isFine (judged a b p .verdict) ≡ false → (if a then (if b then none else some 12) else some 11) ≡ some (numberOf (refusalOf (judged a b p .verdict)))
+judged-refused true true p f e = absurd (true≢false (rw f at e))
+judged-refused true false p f e = refl
+judged-refused false b p f e = refl
+
+amounts : (y a b : Bool) → (y && a && b) ≡ true → (a && b) ≡ true
+amounts true a b e = e
+amounts false a b e = let z : _≡_ {A = ℕ} 0 1 = cc in absurd (omega arith)
+
+module _ (book : Book) (line : Line) (letter year rate : ℕ) (paid incurred : List ℕ) (pre : Turned book line letter year rate paid incurred) (pattern : Pattern) (ep : pattern ≡ patternOf letter rate paid incurred) where
+  abbrev asks : Call
+  asks = addPattern letter year paid incurred
+
+  abbrev fine : Pattern
+  fine = keptOf letter rate (schedule letter (agesOf paid incurred))
+
+  pattern-is : pattern ≡ judged (hasIncurred asks) (climbs asks) fine
+  pattern-is = ep ∙ rw (pre .sound .lengths, amounts (isYear year) (all isAmount paid) (all isAmount incurred) (pre .sound .limits))
+
+  first-of-two : (slots : List ℕ) → firstNo (bookQuestions (view book slots) asks) ≡ (if hasIncurred asks then (if climbs asks then none else some 12) else some 11)
+  first-of-two slots = first-is book letter year paid incurred (pre .sound) line (pre .here) slots ∙ rw (pre .turn, pre .rated, pre .declared)
+
+  module _ (t : Bool) (et : t ≡ isFine (pattern .verdict)) where
+    pub passes : t ≡ true → (slots : List ℕ) → (firstNo (bookQuestions (view book slots) asks) ≡ none) × (pattern ≡ fine)
+    passes e slots =
+        let both = judged-fine (hasIncurred asks) (climbs asks) fine (rw pattern-is at (sym et ∙ e)) in
+        (first-of-two slots ∙ rw (both .0, both .1), pattern-is ∙ rw (both .0, both .1))
+
+    pub ratios-refused : t ≡ false → (slots : List ℕ) (question : Refusal) → question ≡ refusalOf (pattern .verdict) → (r : Outcome) → r ≡ refusedOf book question → Settled (view book slots) asks slots r slots
+    ratios-refused e slots question eq r er =
+        refused book question (firstNo (bookQuestions (view book slots) asks)) asks slots r
+        (first-of-two slots ∙ judged-refused (hasIncurred asks) (climbs asks) fine refl (rw pattern-is at (sym et ∙ e)) ∙ rw (eq, pattern-is)) er

@@ -1,0 +1,45 @@
+-- `patterns::add_pattern::ask_ratios` meets its contract. Assumes nothing.
+use mathlib.Core.Path.{_≡_}
+use lib.ListN.{length}
+use borrow.Author.Needs.{needs}
+use Rattle.state.proofs.Views.{length-mapped}
+use Rattle.patterns.proofs.PatternAdded.{pattern-added}
+use Rattle.patterns.proofs.PatternAsked.{ratios-refused}
+use Rattle.patterns.proofs.add_pattern.ask_ratios.Statement.{statement}
+use Rattle.patterns.proofs.add_pattern.ask_ratios.Tie as tie
+
+discount-requires : tie.Need-discount-requires
+discount-requires c κs = search needs
+
+is-fine-requires : tie.Need-is-fine-requires
+is-fine-requires c κs = search needs
+
+keep-pattern-requires : tie.Need-keep-pattern-requires
+keep-pattern-requires c κs = search needs
+
+returns : tie.Need-returns
+returns c =
+    let start = c .before .before .before .before .before .before .before .before in
+    let lines : length (start .args .book .lines) ≡ 15 = search (length-mapped, start .good .0) in
+    search pattern-added
+
+refusal-of-requires : tie.Need-refusal-of-requires
+refusal-of-requires c κs = search needs
+
+refuse-requires : tie.Need-refuse-requires
+refuse-requires c κs = search needs
+
+returns-2 : tie.Need-returns-2
+returns-2 c = search ratios-refused
+
+pub ask-ratios-spec : {M : Type 1} → statement M
+ask-ratios-spec =
+    tie.close
+    (tie.spec
+    discount-requires
+    is-fine-requires
+    keep-pattern-requires
+    returns
+    refusal-of-requires
+    refuse-requires
+    returns-2)

@@ -1,0 +1,2 @@
+// PATT with numbers: a pattern added to a line.
+pub mod add_pattern;
