@@ -2,7 +2,6 @@
 use crate::rows::have_patterns;
 use crate::rows::row_factors;
 use kinds::closing::Closing;
-use kinds::letter::is_covered;
 use kinds::opening::Opening;
 use kinds::year::is_year;
 use ledger::accept::accept;
@@ -10,6 +9,7 @@ use ledger::answer::Answer;
 use ledger::answer::Outcome;
 use ledger::answer::Refusal;
 use ledger::refuse::refuse;
+use letters::letter::is_covered;
 use reserve::questions::has_lengths;
 use reserve::questions::has_limits;
 use reserve::year_end::year_end;

@@ -5,4 +5,3 @@ pub mod Near
 pub mod Patterns
 pub mod Steps
 pub mod Tails
-pub mod Totals

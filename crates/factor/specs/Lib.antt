@@ -1,6 +1,5 @@
 pub mod Composite
 pub mod Pattern
 pub mod Payment
-pub mod Rate
 pub mod Ratio
 pub mod Walk

@@ -1,6 +1,6 @@
 // The form of a record of each word: how many fields it has, where its numbers begin, and which of them may be below zero.
 use crate::word::Word;
-use kinds::letter::is_ten_year;
+use letters::letter::is_ten_year;
 ghost use mathlib.Core.Path.{_≡_};
 ghost use Rattle.model.specs.Record.{fieldCount, firstNumber, mayFall};
 ghost use Rattle.field.specs.Word.{named};

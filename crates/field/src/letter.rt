@@ -2,7 +2,7 @@
 use crate::field::first;
 use crate::field::start;
 use crate::word::Word;
-use kinds::letter::is_covered;
+use letters::letter::is_covered;
 ghost use mathlib.Core.Path.{_≡_};
 ghost use Rattle.model.specs.Field.{fields, onlyByte, letterIn};
 ghost use Rattle.field.specs.Word.{named, isLettered};

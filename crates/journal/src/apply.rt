@@ -1,11 +1,11 @@
 // One record, by the bytes of its line.
 use closings::close_year::close_year;
-use kinds::letter::ages;
 use ledger::answer::Outcome;
 use ledger::answer::Refusal;
 use ledger::declare::declare;
 use ledger::refuse::refuse;
 use ledger::set_rate::set_rate;
+use letters::letter::ages;
 use patterns::add_pattern::add_pattern;
 use record::read::read;
 use record::request::Request;

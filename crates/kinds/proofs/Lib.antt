@@ -1,4 +1,3 @@
 pub mod All
-pub mod Letters
 pub mod Signed
 pub mod Within

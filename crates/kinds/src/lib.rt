@@ -1,8 +1,7 @@
-// The kinds of value of document 01, each with its limits; and the letters of its lines.
+// The kinds of value of document 01, each with its limits.
 pub mod amount;
 pub mod closing;
 pub mod factor;
-pub mod letter;
 pub mod opening;
 pub mod paid;
 pub mod rate;

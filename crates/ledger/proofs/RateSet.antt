@@ -20,11 +20,11 @@ use Rattle.model.specs.Step.{asNumbers, accept}
 use Rattle.model.proofs.Lists.{and-left}
 use Rattle.kinds.specs.declared.rate.Rate.{Rate}
 use Rattle.kinds.specs.Rate.{rateNumber}
-use Rattle.factor.specs.Rate.{meanOf}
-use Rattle.factor.specs.declared.rate.Mean.{Mean}
-use Rattle.factor.proofs.rate.Mean.{the-type}
-use Rattle.factor.specs.declared.rate.Mean.the-variants as mean
-use Rattle.factor.proofs.Totals.{sum-small}
+use Rattle.rates.specs.Rate.{meanOf}
+use Rattle.rates.specs.declared.rate.Mean.{Mean}
+use Rattle.rates.proofs.rate.Mean.{the-type}
+use Rattle.rates.specs.declared.rate.Mean.the-variants as mean
+use Rattle.rates.proofs.Totals.{sum-small}
 use Rattle.state.specs.declared.book.Book.{Book}
 use Rattle.ledger.specs.declared.answer.Refusal.{Refusal}
 use Rattle.ledger.specs.declared.answer.Refusal.the-variants as refusal

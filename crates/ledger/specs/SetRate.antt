@@ -6,8 +6,8 @@ use Prim.Native.Nat.{ℕ}
 use Rattle.model.specs.Call.{setRate}
 use Rattle.model.specs.Question.{Sound}
 use Rattle.model.specs.Rate.{rateOf}
-use Rattle.factor.specs.declared.rate.Mean.{Mean}
-use Rattle.factor.specs.declared.rate.Mean.the-variants as mean
+use Rattle.rates.specs.declared.rate.Mean.{Mean}
+use Rattle.rates.specs.declared.rate.Mean.the-variants as mean
 use Rattle.ledger.specs.declared.answer.Refusal.{Refusal}
 use Rattle.ledger.specs.declared.answer.Refusal.the-variants as refusal
 

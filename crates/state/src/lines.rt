@@ -2,7 +2,7 @@
 use crate::book::Book;
 use crate::book::Line;
 use crate::cells::place_of;
-use kinds::letter::is_covered;
+use letters::letter::is_covered;
 ghost use mathlib.Core.Path.{_≡_};
 ghost use Rattle.state.specs.Lines.{lineAt, withLineOf};
 

@@ -7,8 +7,8 @@ use lib.ListN.{length}
 use Rattle.model.specs.Basics.{if_then_else_, all}
 use Rattle.model.specs.Kind.{isRate}
 use Rattle.model.specs.Rate.{rateOf}
-use Rattle.factor.specs.declared.rate.Mean.{Mean}
-use Rattle.factor.specs.declared.rate.Mean.the-variants.{Is, Length, Limits}
+use Rattle.rates.specs.declared.rate.Mean.{Mean}
+use Rattle.rates.specs.declared.rate.Mean.the-variants.{Is, Length, Limits}
 
 -- the rate of sixty months; or that there are not sixty of them, or that one of them is no rate
 abbrev pub meanOf : List ℕ → Mean

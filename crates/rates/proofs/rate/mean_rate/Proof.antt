@@ -1,4 +1,4 @@
--- `factor::rate::mean_rate` meets its contract. Assumes nothing.
+-- `rates::rate::mean_rate` meets its contract. Assumes nothing.
 use mathlib.Core.Path.{_≡_, sym, _∙_}
 use mathlib.Core.Bool.{true}
 use native.Mathlib.Omega.{arith}
@@ -7,9 +7,9 @@ use borrow.Author.Tests.{eq-eqb, ne-eqb}
 use lib.ListN.{length}
 use Rattle.model.specs.Basics.{all}
 use Rattle.model.specs.Kind.{isRate}
-use Rattle.factor.proofs.Totals.{sum-small}
-use Rattle.factor.proofs.rate.mean_rate.Statement.{statement}
-use Rattle.factor.proofs.rate.mean_rate.Tie as tie
+use Rattle.rates.proofs.Totals.{sum-small}
+use Rattle.rates.proofs.rate.mean_rate.Statement.{statement}
+use Rattle.rates.proofs.rate.mean_rate.Tie as tie
 
 returns : tie.Need-returns
 returns c = simp (ne-eqb _ _ (c .if1 .taken))

@@ -1,8 +1,8 @@
--- `kinds::letter::is_ten_year` meets its contract. Assumes nothing.
+-- `letters::letter::is_ten_year` meets its contract. Assumes nothing.
 use native.Mathlib.Omega.{arith}
-use Rattle.kinds.proofs.Letters.{is-r, below-a, up-to-h}
-use Rattle.kinds.proofs.letter.is_ten_year.Statement.{statement}
-use Rattle.kinds.proofs.letter.is_ten_year.Tie as tie
+use Rattle.letters.proofs.Letters.{is-r, below-a, up-to-h}
+use Rattle.letters.proofs.letter.is_ten_year.Statement.{statement}
+use Rattle.letters.proofs.letter.is_ten_year.Tie as tie
 
 returns : tie.Need-returns
 returns c = is-r _ (c .if1 .taken)

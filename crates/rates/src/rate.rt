@@ -5,7 +5,7 @@ ghost use mathlib.Core.Bool.{true};
 ghost use lib.ListN.{length};
 ghost use Rattle.model.specs.Basics.{sum, all};
 ghost use Rattle.model.specs.Kind.{isRate};
-ghost use Rattle.factor.specs.Rate.{meanOf};
+ghost use Rattle.rates.specs.Rate.{meanOf};
 
 // The rate of sixty months; or that there are not sixty of them, or that one of them is no rate.
 pub enum Mean {

@@ -1,9 +1,9 @@
--- `kinds::letter::is_covered` meets its contract. Assumes nothing.
+-- `letters::letter::is_covered` meets its contract. Assumes nothing.
 use native.Mathlib.Omega.{arith}
 use borrow.Author.Tests.{lt-ltb, le-ltb, le-leb, lt-leb}
-use Rattle.kinds.proofs.Letters.{is-covered}
-use Rattle.kinds.proofs.letter.is_covered.Statement.{statement}
-use Rattle.kinds.proofs.letter.is_covered.Tie as tie
+use Rattle.letters.proofs.Letters.{is-covered}
+use Rattle.letters.proofs.letter.is_covered.Statement.{statement}
+use Rattle.letters.proofs.letter.is_covered.Tie as tie
 
 returns : tie.Need-returns
 returns c = rw (lt-ltb _ _ (c .if1 .taken)) at (is-covered (c .before .args .letter) (omega arith))

@@ -1,9 +1,9 @@
--- `kinds::letter::ages` meets its contract. Assumes nothing.
+-- `letters::letter::ages` meets its contract. Assumes nothing.
 use mathlib.Core.Path.{sym, _∙_}
 use borrow.Author.Needs.{needs}
 use Rattle.model.specs.Letter.{ages}
-use Rattle.kinds.proofs.letter.ages.Statement.{statement}
-use Rattle.kinds.proofs.letter.ages.Tie as tie
+use Rattle.letters.proofs.letter.ages.Statement.{statement}
+use Rattle.letters.proofs.letter.ages.Tie as tie
 
 is-ten-year-requires : tie.Need-is-ten-year-requires
 is-ten-year-requires c κs = search needs

@@ -1,11 +1,11 @@
--- `factor::rate::total` meets its contract. Assumes nothing.
+-- `rates::rate::total` meets its contract. Assumes nothing.
 use Prim.Native.Nat.{_-_}
 use native.Mathlib.Omega.{arith}
 use borrow.Author.Needs.{needs}
 use lib.ListN.{length}
-use Rattle.factor.proofs.Totals.{Totalling, start, month-small, on, end}
-use Rattle.factor.proofs.rate.total.Statement.{statement}
-use Rattle.factor.proofs.rate.total.Tie as tie
+use Rattle.rates.proofs.Totals.{Totalling, start, month-small, on, end}
+use Rattle.rates.proofs.rate.total.Statement.{statement}
+use Rattle.rates.proofs.rate.total.Tie as tie
 
 abbrev Inv-loop : tie.InvT-loop
 Inv-loop months sum₀ i₀ sum i = Totalling months sum i

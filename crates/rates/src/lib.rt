@@ -1,0 +1,2 @@
+// An accident year's rate, of sixty monthly rates.
+pub mod rate;
