@@ -1,8 +1,6 @@
 // "YEAR, letter, year, then paid, unpaid, tabular for each age, prior row last"
 use crate::rows::have_patterns;
 use crate::rows::row_factors;
-use kinds::closing::Closing;
-use kinds::opening::Opening;
 use kinds::year::is_year;
 use ledger::accept::accept;
 use ledger::answer::Answer;
@@ -10,6 +8,8 @@ use ledger::answer::Outcome;
 use ledger::answer::Refusal;
 use ledger::refuse::refuse;
 use letters::letter::is_covered;
+use money::closing::Closing;
+use money::opening::Opening;
 use reserve::questions::has_lengths;
 use reserve::questions::has_limits;
 use reserve::year_end::year_end;

@@ -1,6 +1,6 @@
 // The patterns that the rows of a year take.
-use kinds::amount::Amount;
 use letters::letter::ages;
+use money::amount::Amount;
 use reserve::row::gross;
 use state::book::Line;
 use state::book::Patterns;

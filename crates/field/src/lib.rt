@@ -2,5 +2,4 @@
 pub mod field;
 pub mod form;
 pub mod letter;
-pub mod number;
 pub mod word;

@@ -8,9 +8,6 @@ use Rattle.model.specs.Basics.{if_then_else_}
 use Rattle.kinds.specs.declared.year.Year as the-year
 use Rattle.kinds.specs.declared.year.MaybeYear.{MaybeYear}
 use Rattle.kinds.specs.declared.year.MaybeYear.the-variants as year-is
-use Rattle.kinds.specs.declared.opening.Opening as the-opening
-use Rattle.kinds.specs.declared.opening.MaybeOpening.{MaybeOpening}
-use Rattle.kinds.specs.declared.opening.MaybeOpening.the-variants as opening-is
 
 pub year-within : (p : Bool) (w a : the-year.Year) (x : MaybeYear) → x ≡ (if p then year-is.Within w else year-is.Outside) → x ≡ year-is.Within a → true ≡ p
 year-within true w a x ex e = refl
@@ -19,11 +16,3 @@ year-within false w a x ex e = let z : _≡_ {A = ℕ} 0 1 = cc in absurd (omega
 pub year-outside : (p : Bool) (w : the-year.Year) (x : MaybeYear) → x ≡ (if p then year-is.Within w else year-is.Outside) → x ≡ year-is.Outside → false ≡ p
 year-outside true w x ex e = let z : _≡_ {A = ℕ} 0 1 = cc in absurd (omega arith)
 year-outside false w x ex e = refl
-
-pub opening-within : (p : Bool) (w a : the-opening.Opening) (x : MaybeOpening) → x ≡ (if p then opening-is.Within w else opening-is.Outside) → x ≡ opening-is.Within a → true ≡ p
-opening-within true w a x ex e = refl
-opening-within false w a x ex e = let z : _≡_ {A = ℕ} 0 1 = cc in absurd (omega arith)
-
-pub opening-outside : (p : Bool) (w : the-opening.Opening) (x : MaybeOpening) → x ≡ (if p then opening-is.Within w else opening-is.Outside) → x ≡ opening-is.Outside → false ≡ p
-opening-outside true w x ex e = let z : _≡_ {A = ℕ} 0 1 = cc in absurd (omega arith)
-opening-outside false w x ex e = refl

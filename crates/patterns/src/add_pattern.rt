@@ -2,7 +2,6 @@
 use factor::pattern::Verdict;
 use factor::pattern::discount;
 use factor::published::published;
-use kinds::amount::Amount;
 use kinds::rate::Rate;
 use kinds::year::is_year;
 use ledger::accept::accept;
@@ -12,6 +11,7 @@ use ledger::answer::Refusal;
 use ledger::refuse::refuse;
 use letters::letter::ages;
 use letters::letter::is_covered;
+use money::amount::Amount;
 use state::book::Book;
 use state::book::Line;
 use state::book::Patterns;

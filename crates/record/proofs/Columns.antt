@@ -13,7 +13,7 @@ use mir.Syntax.{w64}
 use mir.Val.{SFits, toZ, ofZ}
 use mir.Facts.{toZ-pos, toZ-ofZ}
 use Rattle.model.specs.Field.{field, column}
-use Rattle.field.specs.Number.{most}
+use Rattle.numbers.specs.Number.{most}
 use Rattle.record.specs.Column.{each, whole, sizeAt, paidAt}
 
 -- one value more

@@ -14,9 +14,9 @@ use Rattle.model.specs.Field.{fields, field}
 use Rattle.model.specs.Number.{isWritten}
 use Rattle.model.specs.Record.{Word, mayFall, allWritten}
 use Rattle.model.proofs.Lists.{drop-next}
-use Rattle.field.specs.Number.{capped, hasMinus, Reads}
+use Rattle.numbers.specs.Number.{capped, hasMinus, Reads}
 use Rattle.field.specs.Place.{Starts}
-use Rattle.field.specs.declared.number.Reading.{Reading}
+use Rattle.numbers.specs.declared.number.Reading.{Reading}
 use Rattle.field.proofs.Fields.{rest-whole, has-field, no-field, next-starts, ends}
 use Rattle.record.specs.Gather.{Gathered}
 

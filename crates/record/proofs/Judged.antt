@@ -17,7 +17,7 @@ use Rattle.model.specs.Question.{isWithinLimits}
 use Rattle.model.proofs.Lists.{and-left, and-right}
 use Rattle.model.proofs.Ages.{ages-small}
 use Rattle.field.specs.Word.{named}
-use Rattle.field.specs.Number.{most}
+use Rattle.numbers.specs.Number.{most}
 use Rattle.record.specs.Column.{each, sizeAt, paidAt}
 use Rattle.record.specs.Request.{asks, empty, says}
 use Rattle.record.specs.Limits.{judged, callOf, Low, Judgeable}

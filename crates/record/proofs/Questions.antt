@@ -16,7 +16,7 @@ use Rattle.model.specs.Record.{Word, LINE, RATE, PATT, YEAR, OTHER, wordOf, fie
 use Rattle.model.specs.Question.{isShort, hasWord, hasLetter, hasFields, isWellWritten, isWithinLimits, lineQuestions, firstNo}
 use Rattle.model.proofs.Lists.{and-left, and-right}
 use Rattle.field.specs.Word.{isLettered}
-use Rattle.field.specs.Number.{capped}
+use Rattle.numbers.specs.Number.{capped}
 use Rattle.record.specs.Gather.{Gathered}
 use Rattle.record.specs.Column.{each, sizeAt, paidAt}
 use Rattle.record.specs.Request.{refusedAt, asks, answered, readOf, empty, says}

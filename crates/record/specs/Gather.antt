@@ -8,7 +8,7 @@ use lib.Dec.{eqb}
 use lib.ListN.{length, drop, getD}
 use Rattle.model.specs.Field.{field}
 use Rattle.model.specs.Record.{Word, allWritten}
-use Rattle.field.specs.Number.{capped, hasMinus}
+use Rattle.numbers.specs.Number.{capped, hasMinus}
 
 -- whether there are as many fields as expected, and the numbers from a place on are well written; and if so the sign and the size of each, at its place
 pub record Gathered (word : Word) (place expected : ℕ) (fs : List (List ℕ)) (right : Bool) (minus : List Bool) (sizes : List ℕ) : Type 0 where

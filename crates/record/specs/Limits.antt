@@ -10,7 +10,7 @@ use Rattle.model.specs.Letter.{ages}
 use Rattle.model.specs.Call.{Call, declare, setRate, addPattern, closeYear}
 use Rattle.model.specs.Record.{Word, LINE, RATE, PATT, YEAR, OTHER}
 use Rattle.model.specs.Question.{hasWord, isWithinLimits}
-use Rattle.field.specs.Number.{most}
+use Rattle.numbers.specs.Number.{most}
 use Rattle.record.specs.Column.{each, sizeAt, paidAt}
 use Rattle.record.specs.Request.{Read, refusedAt, asks}
 

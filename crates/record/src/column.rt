@@ -2,7 +2,7 @@
 ghost use mathlib.Core.Path.{_≡_};
 ghost use Prim.Native.Nat.{ℕ, _+_, _*_, _≤_, _<_};
 ghost use lib.ListN.{take, getD};
-ghost use Rattle.field.specs.Number.{most};
+ghost use Rattle.numbers.specs.Number.{most};
 ghost use Rattle.record.specs.Column.{each, whole, sizeAt, paidAt};
 
 // "RATE, year, sixty rates"

@@ -1,8 +1,8 @@
 // "Is the count of fields right?" and "Is every number well written?" in one pass: all numbers of a line, each at its field's place.
 use field::field::start;
 use field::form::may_fall;
-use field::number::signed;
 use field::word::Word;
+use numbers::number::signed;
 ghost use Prim.Native.Nat.{_<_, _≤_};
 ghost use Rattle.model.specs.Field.{fields};
 ghost use Rattle.field.specs.Word.{named};

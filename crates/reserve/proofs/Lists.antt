@@ -19,7 +19,7 @@ use Rattle.model.specs.Row.{rowsOf, discounted, stated}
 use Rattle.model.specs.YearEnd.{paidTotal}
 use Rattle.model.proofs.Lists.{and-left, and-right}
 use Rattle.model.proofs.Ages.{ages-small}
-use Rattle.kinds.proofs.Signed.{sum-size}
+use Rattle.money.proofs.Signed.{sum-size}
 use Rattle.reserve.specs.Closing.{discountedRows, closingAt}
 use Rattle.reserve.specs.Figures.{Figures}
 use Rattle.reserve.specs.Lists.{PaidList, ReserveLists, paidSum, statedRows}

@@ -8,7 +8,7 @@ use mir.Syntax.{w64}
 use mir.Val.{SFits, toZ, ofZ}
 use mir.Facts.{toZ-pos}
 use Rattle.model.specs.YearEnd.{loss}
-use Rattle.kinds.proofs.Signed.{sum-size, negative-size, size-fits, read-back}
+use Rattle.money.proofs.Signed.{sum-size, negative-size, size-fits, read-back}
 use Rattle.reserve.specs.Figures.{Figures}
 
 module _ (paid : ℤ) (closing opening : ℕ) (f : Figures paid closing opening) where

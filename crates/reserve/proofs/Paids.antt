@@ -13,7 +13,7 @@ use mir.Syntax.{w64}
 use mir.Val.{SFits, toZ, ofZ}
 use Rattle.model.specs.Kind.{isPaid}
 use Rattle.model.proofs.Lists.{all-at}
-use Rattle.kinds.proofs.Signed.{sum-size, size-fits, read-back}
+use Rattle.money.proofs.Signed.{sum-size, size-fits, read-back}
 use Rattle.reserve.specs.Lists.{PaidList, paidSum}
 
 -- the paid before place i are in the sum

@@ -11,7 +11,7 @@ use mir.Val.{toZ, ofZ}
 use Rattle.model.specs.Call.{closeYear}
 use Rattle.model.specs.Question.{hasLengths}
 use Rattle.model.specs.YearEnd.{loss}
-use Rattle.kinds.proofs.Signed.{read-back}
+use Rattle.money.proofs.Signed.{read-back}
 use Rattle.reserve.specs.Closing.{closingAt}
 use Rattle.reserve.specs.Figures.{Figures}
 use Rattle.reserve.specs.Lists.{PaidList, ReserveLists, paidSum, statedRows}

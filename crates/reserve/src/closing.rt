@@ -1,7 +1,7 @@
 // "Closing is the sum of discounted rows."
 use crate::row::discounted;
-use kinds::amount::Amount;
 use kinds::factor::Factor;
+use money::amount::Amount;
 ghost use mathlib.Core.Path.{_≡_};
 ghost use Rattle.reserve.specs.Lists.{ReserveLists, statedRows};
 ghost use Rattle.reserve.specs.Closing.{closingAt};

@@ -1,7 +1,7 @@
 // Questions 4 and 6, put to the lists of a year.
-use kinds::amount::Amount;
-use kinds::paid::Paid;
 use letters::letter::ages;
+use money::amount::Amount;
+use money::paid::Paid;
 ghost use mathlib.Core.Path.{_≡_};
 ghost use Rattle.model.specs.Call.{closeYear};
 ghost use Rattle.model.specs.Question.{hasLengths};

@@ -1,12 +1,12 @@
 // A row: its gross and its discounted value.
 use factor::published::published;
-use kinds::amount::Amount;
 use kinds::factor::Factor;
+use money::amount::Amount;
 ghost use mathlib.Core.Path.{_≡_};
 ghost use Prim.Native.Nat.{_+_};
 ghost use Rattle.model.specs.Published.{published};
 ghost use Rattle.model.specs.Row.{discounted, stated};
-ghost use Rattle.kinds.specs.Amount.{amountNumber};
+ghost use Rattle.money.specs.Amount.{amountNumber};
 ghost use Rattle.kinds.specs.Factor.{factorNumber};
 
 // "Gross is unpaid plus tabular."

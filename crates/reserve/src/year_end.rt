@@ -4,9 +4,9 @@ use crate::loss::loss;
 use crate::paid_total::paid_total;
 use crate::questions::has_lengths;
 use crate::questions::has_limits;
-use kinds::closing::Closing;
+use money::closing::Closing;
 ghost use mathlib.Core.Path.{_≡_};
-ghost use Rattle.kinds.specs.Closing.{closingNumber};
+ghost use Rattle.money.specs.Closing.{closingNumber};
 ghost use Rattle.reserve.specs.YearEnd.{yearEnd, refused};
 
 // Whether the lists are those of a year; if not, which question is answered no: 4 (Length) or 6 (Limits).

@@ -12,7 +12,7 @@ use mir.Syntax.{w64}
 use mir.Val.{Fits, SFits, toZ, ofZ}
 use mir.Facts.{toZ-ofZ}
 use Rattle.model.proofs.Lists.{true≢false}
-use Rattle.kinds.proofs.Signed.{size-fits, read-back}
+use Rattle.money.proofs.Signed.{size-fits, read-back}
 
 -- a number below zero, and not below -10,000,000,000
 record Negative (v : ℤ) : Type 0 where

@@ -1,0 +1,4 @@
+pub mod Amount
+pub mod Closing
+pub mod Opening
+pub mod Paid

@@ -1,0 +1,144 @@
+-- A number with its sign.
+-- Assumes nothing.
+use mathlib.Core.Bool.{Bool, true, false, not, _&&_, false≢true}
+use mathlib.Core.Path.{_≡_, refl, sym, ap, _∙_}
+use mathlib.Core.List.{List, [], _∷_}
+use Prim.Native.Nat.{ℕ, suc, _+_, _-_, _≤_, min}
+use native.Mathlib.Omega.{arith}
+use borrow.Author.Tests.{eqb-true, eqb-false, lt-ltb}
+use lib.Dec.{eqb, ltb}
+use lib.ListN.{length, take, drop}
+use Rattle.model.specs.Field.{fields, field}
+use Rattle.model.specs.Number.{natural, isPlain, isWritten}
+use Rattle.numbers.specs.Number.{most, capped, hasMinus, Found, Reads}
+use Rattle.numbers.specs.declared.number.Digits.{Digits}
+use Rattle.numbers.specs.declared.number.Reading.{Reading}
+use Rattle.field.proofs.Scan.{before, first-field}
+use Rattle.field.proofs.Fields.{before-le, rest-whole}
+use Rattle.numbers.proofs.Digits.{plain-field}
+
+pub minus-none : (s : List ℕ) → length s ≡ 0 → false ≡ hasMinus s
+minus-none [] e = refl
+minus-none (b ∷ bs) e = absurd (omega arith)
+
+pub minus-some : (s : List ℕ) (t : Bool) → t ≡ hasMinus s → t ≡ true → 1 ≤ length s
+minus-some [] t et q = absurd (false≢true (sym et ∙ q))
+minus-some (b ∷ bs) t et q = omega arith
+
+-- well written, with a sign and without
+written-plain : (m : Bool) (f : List ℕ) → hasMinus f ≡ false → isWritten m f ≡ isPlain f
+unfolding isWritten isPlain
+written-plain m [] e = refl
+written-plain m (b ∷ bs) e = rw e
+
+written-minus : (f : List ℕ) → hasMinus f ≡ true → isWritten true f ≡ (isPlain (drop 1 f) && not (eqb (natural (drop 1 f)) 0))
+unfolding isWritten
+written-minus [] e = absurd (false≢true e)
+written-minus (b ∷ bs) e = rw e
+
+-- a plain number has no minus sign
+plain-minus : (f : List ℕ) → hasMinus f ≡ true → isPlain f ≡ false
+unfolding isPlain
+plain-minus [] e = refl
+plain-minus (b ∷ []) e = let z : b ≡ 45 = eqb-true b 45 e in rw z
+plain-minus (b ∷ c ∷ bs) e = let z : b ≡ 45 = eqb-true b 45 e in rw z
+
+unsigned-minus : (f : List ℕ) → hasMinus f ≡ true → isWritten false f ≡ false
+unfolding isWritten
+unsigned-minus [] e = refl
+unsigned-minus (b ∷ bs) e = rw e
+
+never-by : (f : List ℕ) (t : Bool) → hasMinus f ≡ t → isWritten false f ≡ isPlain f
+never-by f true e = unsigned-minus f e ∙ sym (plain-minus f e)
+never-by f false e = written-plain false f e
+
+-- where no sign is allowed, a number is well written just where it is plain
+written-never : (f : List ℕ) → isWritten false f ≡ isPlain f
+written-never f = never-by f (hasMinus f) refl
+
+no-minus-by : (f : List ℕ) (t : Bool) → hasMinus f ≡ t → isPlain f ≡ true → false ≡ t
+no-minus-by f true e p = sym (plain-minus f e) ∙ p
+no-minus-by f false e p = refl
+
+-- a minus sign adds nothing to the size
+pub natural-minus : (f : List ℕ) → hasMinus f ≡ true → natural f ≡ natural (drop 1 f)
+unfolding natural
+natural-minus [] e = refl
+natural-minus (b ∷ bs) e = let z : b ≡ 45 = eqb-true b 45 e in rw z
+
+-- a number without a sign
+pub unsigned-is : (s : List ℕ) (d : Digits) → Found s d → (t : Bool) → t ≡ isPlain (field 0 (fields s)) → Reads false (field 0 (fields s)) record { right = t; minus = false; size = d .size; length = d .length }
+unsigned-is s d h t et =
+    record {
+      written = et ∙ sym (written-never (field 0 (fields s)));
+      sign = λ q. no-minus-by (field 0 (fields s)) (hasMinus (field 0 (fields s))) refl (sym et ∙ q);
+      value = λ q. rw (plain-field s (sym et ∙ q)) (h .value);
+      long = λ q. rw (plain-field s (sym et ∙ q)) (h .long);
+    }
+
+-- the sign of the field at the front is that of the rest
+same-by : (b : ℕ) (bs : List ℕ) (t : Bool) → eqb b 9 ≡ t → hasMinus (before (b ∷ bs)) ≡ hasMinus (b ∷ bs)
+same-by b bs true e = let z : b ≡ 9 = eqb-true b 9 e in rw z
+same-by b bs false e = rw e
+
+same-minus : (s : List ℕ) → hasMinus (before s) ≡ hasMinus s
+same-minus [] = refl
+same-minus (b ∷ bs) = same-by b bs (eqb b 9) refl
+
+-- the field after a minus sign
+after-minus : (s : List ℕ) → hasMinus s ≡ true → (drop 1 (before s) ≡ before (drop 1 s)) × (length (before s) ≡ suc (length (before (drop 1 s))))
+after-minus [] e = absurd (false≢true e)
+after-minus (b ∷ bs) e = let z : b ≡ 45 = eqb-true b 45 e in rw z (refl, refl)
+
+pub signed-never : (falls : Bool) (f : List ℕ) (r : Reading) → falls ≡ false → Reads false f r → Reads falls f r
+signed-never falls f r e h = rw e h
+
+nonzero-by : (n : ℕ) (t : Bool) → eqb n 0 ≡ t → ltb 0 (min n most) ≡ not t
+nonzero-by n true e = let z : n ≡ 0 = eqb-true n 0 e in rw z
+nonzero-by n false e = lt-ltb 0 (min n most) (omega (arith, eqb-false n 0 e))
+
+nonzero : (n : ℕ) → ltb 0 (min n most) ≡ not (eqb n 0)
+nonzero n = nonzero-by n (eqb n 0) refl
+
+module _ (s : List ℕ) (falls t : Bool) (ef : falls ≡ true) (et : t ≡ hasMinus s) where
+  sign : hasMinus (field 0 (fields s)) ≡ t
+  sign = ap hasMinus (first-field s) ∙ same-minus s ∙ sym et
+
+  pub signed-plus : t ≡ false → (r : Reading) → Reads false (field 0 (fields s)) r → Reads falls (field 0 (fields s)) r
+  signed-plus t0 r h =
+      let w : isWritten falls (field 0 (fields s)) ≡ isWritten false (field 0 (fields s)) =
+      written-plain falls (field 0 (fields s)) (sign ∙ t0) ∙ sym (written-never (field 0 (fields s))) in
+      record { written = h .written ∙ sym w; sign = h .sign; value = h .value; long = h .long }
+
+  module _ (t1 : t ≡ true) (n : Reading) (h : Reads false (field 0 (fields (take (length s - 1) (drop 1 s)))) n) where
+    part : field 0 (fields (take (length s - 1) (drop 1 s))) ≡ drop 1 (field 0 (fields s))
+    part = rw (rest-whole s 1, first-field (drop 1 s), first-field s) (sym (after-minus s (sym et ∙ t1) .0))
+
+    written : isWritten falls (field 0 (fields s)) ≡ (n .right && not (eqb (natural (drop 1 (field 0 (fields s)))) 0))
+    written =
+        let p : n .right ≡ isPlain (drop 1 (field 0 (fields s))) = rw (← part) (h .written ∙ written-never (field 0 (fields (take (length s - 1) (drop 1 s))))) in
+        rw (ef, written-minus (field 0 (fields s)) (sign ∙ t1), p)
+
+    pub signed-ill : n .right ≡ false → Reads falls (field 0 (fields s)) n
+    signed-ill e = record { written = e ∙ sym (rw e at written); sign = λ q. absurd (false≢true (sym e ∙ q)); value = λ q. absurd (false≢true (sym e ∙ q)); long = λ q. absurd (false≢true (sym e ∙ q)) }
+
+    module _ (e : n .right ≡ true) where
+      size : n .size ≡ capped (drop 1 (field 0 (fields s)))
+      size = rw (← part) (h .value e)
+
+      long : n .length + 1 ≡ length (field 0 (fields s))
+      long =
+          let l : n .length ≡ length (before (drop 1 s)) = rw (rest-whole s 1, first-field (drop 1 s)) at (h .long e) in
+          rw (first-field s) (omega (arith, after-minus s (sym et ∙ t1) .1))
+
+      pub signed-fits : n .length + 1 ≤ length s
+      signed-fits = omega (arith, long, ap length (first-field s), before-le s)
+
+      pub signed-minus : Reads falls (field 0 (fields s)) record { right = ltb 0 (n .size); minus = true; size = n .size; length = n .length + 1 }
+      signed-minus =
+          record {
+            written = rw (written, e, size) (nonzero (natural (drop 1 (field 0 (fields s)))));
+            sign = λ q. sym (sign ∙ t1);
+            value = λ q. rw (natural-minus (field 0 (fields s)) (sign ∙ t1)) size;
+            long = λ q. long;
+          }

@@ -1,0 +1,157 @@
+// "A number is digits without leading zeros ("0" alone is right); a minus sign is allowed only before a nonzero paid in YEAR."
+// A number is read in one pass, from the front of the rest of a line to the end of its field.
+ghost use mathlib.Core.Path.{_≡_};
+ghost use mathlib.Core.Bool.{false};
+ghost use Prim.Native.Nat.{_+_, _*_, _-_, _≤_, min};
+ghost use lib.ListN.{length, drop};
+ghost use Rattle.model.specs.Field.{fields, field};
+ghost use Rattle.model.specs.Number.{isPlain};
+ghost use Rattle.numbers.specs.Number.{most, hasMinus, leading, isEnd, Told, Found, Reads};
+
+// Above every limit: what a longer number is read as.
+const MOST: u64 = 1000000000000;
+
+// The digits at the front of the rest of a line: their number, or MOST, and how many they are.
+struct Digits {
+    pub size: u64,
+    pub length: usize,
+}
+
+// Is the field at the front well written? If so, its sign, its size and its length.
+pub struct Reading {
+    pub right: bool,
+    pub minus: bool,
+    pub size: u64,
+    pub length: usize,
+}
+
+// One digit more.
+fn longer(n: u64, digit: u8) -> u64
+    requires { ⌜ (n ≤ most) × (48 ≤ digit) ⌝ }
+    ensures { λ r. ⌜ r ≡ min (n * 10 + (digit - 48)) most ⌝ }
+{
+    let m = n * 10 + (digit - b'0') as u64;
+    if m < MOST { m } else { MOST }
+}
+
+// The digits at the front, of which those before place `at` make n.
+fn more_digits(rest: &[u8], at: usize, n: u64) -> Digits
+    requires { ⌜ Told (now rest) n at ⌝ }
+    ensures { λ r. ⌜ Found (now (rest .entry)) r ⌝ }
+{
+    let mut size = n;
+    let mut i = at;
+    while i < rest.len() {
+        let digit = rest[i];
+        if digit < b'0' {
+            return Digits { size, length: i };
+        }
+        if digit > b'9' {
+            return Digits { size, length: i };
+        }
+        size = longer(size, digit);
+        i += 1;
+    }
+    Digits { size, length: i }
+}
+
+// The digits at the front. Twelve digits stay below MOST.
+fn leading_digits(rest: &[u8]) -> Digits
+    ensures { λ r. ⌜ Found (now (rest .entry)) r ⌝ }
+{
+    let mut size: u64 = 0;
+    let mut i = 0;
+    while i < 12 {
+        if i >= rest.len() {
+            return Digits { size, length: i };
+        }
+        let digit = rest[i];
+        if digit < b'0' {
+            return Digits { size, length: i };
+        }
+        if digit > b'9' {
+            return Digits { size, length: i };
+        }
+        size = size * 10 + (digit - b'0') as u64;
+        i += 1;
+    }
+    more_digits(rest, i, size)
+}
+
+// Does a field end at place `at`?
+fn is_end(rest: &[u8], at: usize) -> bool
+    ensures { λ r. ⌜ r ≡ isEnd (drop at (now (rest .entry))) ⌝ }
+{
+    if at < rest.len() {
+        return rest[at] == b'\t';
+    }
+    true
+}
+
+// "digits without leading zeros ("0" alone is right)": is the field at the front that, with so many digits at the front?
+fn is_plain(rest: &[u8], count: usize) -> bool
+    requires { ⌜ count ≡ length (leading (now rest)) ⌝ }
+    ensures { λ r. ⌜ r ≡ isPlain (field 0 (fields (now (rest .entry)))) ⌝ }
+{
+    if count == 0 {
+        return false;
+    }
+    if count == 1 {
+        return is_end(rest, 1);
+    }
+    if rest[0] == b'0' {
+        return false;
+    }
+    is_end(rest, count)
+}
+
+// A number without a sign.
+fn unsigned(rest: &[u8]) -> Reading
+    ensures { λ r. ⌜ Reads false (field 0 (fields (now (rest .entry)))) r ⌝ }
+{
+    let found = leading_digits(rest);
+    let size = found.size;
+    let length = found.length;
+    let right = is_plain(rest, length);
+    Reading {
+        right,
+        minus: false,
+        size,
+        length,
+    }
+}
+
+// Does the field at the front begin with a minus sign?
+fn has_minus(rest: &[u8]) -> bool
+    ensures { λ r. ⌜ r ≡ hasMinus (now (rest .entry)) ⌝ }
+{
+    if rest.len() == 0 {
+        return false;
+    }
+    rest[0] == b'-'
+}
+
+// The number at the front, where `falls` says whether a minus sign is allowed.
+pub fn signed(rest: &[u8], falls: bool) -> Reading
+    ensures { λ r. ⌜ Reads falls (field 0 (fields (now (rest .entry)))) r ⌝ }
+{
+    if falls {
+        if has_minus(rest) {
+            let number = unsigned(&rest[1..]);
+            let right = number.right;
+            let size = number.size;
+            let length = number.length;
+            if right {
+                return Reading {
+                    right: size > 0,
+                    minus: true,
+                    size,
+                    length: length + 1,
+                };
+            }
+            return number;
+        }
+        return unsigned(rest);
+    }
+    unsigned(rest)
+}
