@@ -8,9 +8,10 @@ use native.Mathlib.Omega.{arith}
 use borrow.Author.Tests.{eqb-true, eqb-false, lt-ltb}
 use lib.Dec.{eqb, ltb}
 use lib.ListN.{length, take, drop}
+use Rattle.model.specs.Basics.{if_then_else_}
 use Rattle.model.specs.Field.{fields, field}
 use Rattle.model.specs.Number.{natural, isPlain, isWritten}
-use Rattle.numbers.specs.Number.{most, capped, hasMinus, Found, Reads}
+use Rattle.numbers.specs.Number.{most, capped, hasMinus, signLength, Found, Reads}
 use Rattle.numbers.specs.declared.number.Digits.{Digits}
 use Rattle.numbers.specs.declared.number.Reading.{Reading}
 use Rattle.field.proofs.Scan.{before, first-field}
@@ -21,9 +22,30 @@ pub minus-none : (s : List ℕ) → length s ≡ 0 → false ≡ hasMinus s
 minus-none [] e = refl
 minus-none (b ∷ bs) e = absurd (omega arith)
 
-pub minus-some : (s : List ℕ) (t : Bool) → t ≡ hasMinus s → t ≡ true → 1 ≤ length s
-minus-some [] t et q = absurd (false≢true (sym et ∙ q))
-minus-some (b ∷ bs) t et q = omega arith
+minus-some : (s : List ℕ) → hasMinus s ≡ true → 1 ≤ length s
+minus-some [] e = absurd (false≢true e)
+minus-some (b ∷ bs) e = omega arith
+
+-- the sign at the front
+pub sign-one : (falls : Bool) (s : List ℕ) (t : Bool) → falls ≡ true → t ≡ hasMinus s → t ≡ true → 1 ≡ signLength falls s
+sign-one falls s t ef et q = rw (ef, ← et, q)
+
+pub sign-none : (falls : Bool) (s : List ℕ) (t : Bool) → falls ≡ true → t ≡ hasMinus s → t ≡ false → 0 ≡ signLength falls s
+sign-none falls s t ef et q = rw (ef, ← et, q)
+
+fits-by : (falls : Bool) (s : List ℕ) (t : Bool) (n : ℕ) → hasMinus s ≡ t → n ≡ (if falls then (if t then 1 else 0) else 0) → n ≤ length s
+fits-by true s true n q e = omega (arith, minus-some s q)
+fits-by true s false n q e = omega arith
+fits-by false s t n q e = omega arith
+
+pub sign-fits : (falls : Bool) (s : List ℕ) (n : ℕ) → n ≡ signLength falls s → n ≤ length s
+sign-fits falls s n e = fits-by falls s (hasMinus s) n refl e
+
+-- it is there just where it is allowed and the rest begins with one
+told-by : (falls t : Bool) (n : ℕ) → n ≡ (if falls then (if t then 1 else 0) else 0) → (n ≡ 0 → ⊥) → (falls ≡ true) × (t ≡ true) × (n ≡ 1)
+told-by true true n e z = (refl, refl, e)
+told-by true false n e z = absurd (z e)
+told-by false t n e z = absurd (z e)
 
 -- well written, with a sign and without
 written-plain : (m : Bool) (f : List ℕ) → hasMinus f ≡ false → isWritten m f ≡ isPlain f
@@ -90,9 +112,6 @@ after-minus : (s : List ℕ) → hasMinus s ≡ true → (drop 1 (before s) ≡ 
 after-minus [] e = absurd (false≢true e)
 after-minus (b ∷ bs) e = let z : b ≡ 45 = eqb-true b 45 e in rw z (refl, refl)
 
-pub signed-never : (falls : Bool) (f : List ℕ) (r : Reading) → falls ≡ false → Reads false f r → Reads falls f r
-signed-never falls f r e h = rw e h
-
 nonzero-by : (n : ℕ) (t : Bool) → eqb n 0 ≡ t → ltb 0 (min n most) ≡ not t
 nonzero-by n true e = let z : n ≡ 0 = eqb-true n 0 e in rw z
 nonzero-by n false e = lt-ltb 0 (min n most) (omega (arith, eqb-false n 0 e))
@@ -104,8 +123,8 @@ module _ (s : List ℕ) (falls t : Bool) (ef : falls ≡ true) (et : t ≡ hasMi
   sign : hasMinus (field 0 (fields s)) ≡ t
   sign = ap hasMinus (first-field s) ∙ same-minus s ∙ sym et
 
-  pub signed-plus : t ≡ false → (r : Reading) → Reads false (field 0 (fields s)) r → Reads falls (field 0 (fields s)) r
-  signed-plus t0 r h =
+  plus : t ≡ false → (r : Reading) → Reads false (field 0 (fields s)) r → Reads falls (field 0 (fields s)) r
+  plus t0 r h =
       let w : isWritten falls (field 0 (fields s)) ≡ isWritten false (field 0 (fields s)) =
       written-plain falls (field 0 (fields s)) (sign ∙ t0) ∙ sym (written-never (field 0 (fields s))) in
       record { written = h .written ∙ sym w; sign = h .sign; value = h .value; long = h .long }
@@ -119,8 +138,8 @@ module _ (s : List ℕ) (falls t : Bool) (ef : falls ≡ true) (et : t ≡ hasMi
         let p : n .right ≡ isPlain (drop 1 (field 0 (fields s))) = rw (← part) (h .written ∙ written-never (field 0 (fields (take (length s - 1) (drop 1 s))))) in
         rw (ef, written-minus (field 0 (fields s)) (sign ∙ t1), p)
 
-    pub signed-ill : n .right ≡ false → Reads falls (field 0 (fields s)) n
-    signed-ill e = record { written = e ∙ sym (rw e at written); sign = λ q. absurd (false≢true (sym e ∙ q)); value = λ q. absurd (false≢true (sym e ∙ q)); long = λ q. absurd (false≢true (sym e ∙ q)) }
+    ill : n .right ≡ false → Reads falls (field 0 (fields s)) n
+    ill e = record { written = e ∙ sym (rw e at written); sign = λ q. absurd (false≢true (sym e ∙ q)); value = λ q. absurd (false≢true (sym e ∙ q)); long = λ q. absurd (false≢true (sym e ∙ q)) }
 
     module _ (e : n .right ≡ true) where
       size : n .size ≡ capped (drop 1 (field 0 (fields s)))
@@ -131,14 +150,40 @@ module _ (s : List ℕ) (falls t : Bool) (ef : falls ≡ true) (et : t ≡ hasMi
           let l : n .length ≡ length (before (drop 1 s)) = rw (rest-whole s 1, first-field (drop 1 s)) at (h .long e) in
           rw (first-field s) (omega (arith, after-minus s (sym et ∙ t1) .1))
 
-      pub signed-fits : n .length + 1 ≤ length s
-      signed-fits = omega (arith, long, ap length (first-field s), before-le s)
+      fits : n .length + 1 ≤ length s
+      fits = omega (arith, long, ap length (first-field s), before-le s)
 
-      pub signed-minus : Reads falls (field 0 (fields s)) record { right = ltb 0 (n .size); minus = true; size = n .size; length = n .length + 1 }
-      signed-minus =
+      below : Reads falls (field 0 (fields s)) record { right = ltb 0 (n .size); minus = true; size = n .size; length = n .length + 1 }
+      below =
           record {
             written = rw (written, e, size) (nonzero (natural (drop 1 (field 0 (fields s)))));
             sign = λ q. sym (sign ∙ t1);
             value = λ q. rw (natural-minus (field 0 (fields s)) (sign ∙ t1)) size;
             long = λ q. long;
           }
+
+none-by : (s : List ℕ) (falls t : Bool) (l : ℕ) → hasMinus s ≡ t → l ≡ (if falls then (if t then 1 else 0) else 0) → l ≡ 0 → (r : Reading) → Reads false (field 0 (fields s)) r → Reads falls (field 0 (fields s)) r
+none-by s true true l q e z r h = absurd (omega arith)
+none-by s true false l q e z r h = plus s true false refl (sym q) refl r h
+none-by s false t l q e z r h = h
+
+-- a number read from after the sign on
+module _ (s : List ℕ) (falls : Bool) (l : ℕ) (el : l ≡ signLength falls s) (n : Reading) (h : Reads false (field 0 (fields (take (length s - l) (drop l s)))) n) where
+  pub signed-plus : l ≡ 0 → Reads falls (field 0 (fields s)) n
+  signed-plus z = none-by s falls (hasMinus s) l refl el z n (rw (z, rest-whole s 0) at h)
+
+  module _ (nz : l ≡ 0 → ⊥) where
+    told : (falls ≡ true) × (hasMinus s ≡ true) × (l ≡ 1)
+    told = told-by falls (hasMinus s) l el nz
+
+    after : Reads false (field 0 (fields (take (length s - 1) (drop 1 s)))) n
+    after = rw (told .2) at h
+
+    pub signed-ill : n .right ≡ false → Reads falls (field 0 (fields s)) n
+    signed-ill e = ill s falls (hasMinus s) (told .0) refl (told .1) n after e
+
+    pub signed-fits : n .right ≡ true → n .length + 1 ≤ length s
+    signed-fits e = fits s falls (hasMinus s) (told .0) refl (told .1) n after e
+
+    pub signed-minus : n .right ≡ true → Reads falls (field 0 (fields s)) record { right = ltb 0 (n .size); minus = true; size = n .size; length = n .length + 1 }
+    signed-minus e = below s falls (hasMinus s) (told .0) refl (told .1) n after e

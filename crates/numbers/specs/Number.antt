@@ -22,6 +22,10 @@ capped f = min (natural f) most
 abbrev pub hasMinus : List ℕ → Bool
 hasMinus f = eqb (getD f 0 0) minus
 
+-- how long the sign at the front is, where falls says whether a minus sign is allowed
+abbrev pub signLength : Bool → List ℕ → ℕ
+signLength falls f = if falls then (if hasMinus f then 1 else 0) else 0
+
 -- the digits at the front
 abbrev pub leading : List ℕ → List ℕ
 leading [] = []

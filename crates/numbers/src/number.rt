@@ -6,7 +6,7 @@ ghost use Prim.Native.Nat.{_+_, _*_, _-_, _≤_, min};
 ghost use lib.ListN.{length, drop};
 ghost use Rattle.model.specs.Field.{fields, field};
 ghost use Rattle.model.specs.Number.{isPlain};
-ghost use Rattle.numbers.specs.Number.{most, hasMinus, leading, isEnd, Told, Found, Reads};
+ghost use Rattle.numbers.specs.Number.{most, hasMinus, signLength, leading, isEnd, Told, Found, Reads};
 
 // Above every limit: what a longer number is read as.
 const MOST: u64 = 1000000000000;
@@ -131,27 +131,38 @@ fn has_minus(rest: &[u8]) -> bool
     rest[0] == b'-'
 }
 
+// How long the sign at the front is: a byte where a minus sign is allowed and stands there.
+fn sign_length(rest: &[u8], falls: bool) -> usize
+    ensures { λ r. ⌜ r ≡ signLength falls (now (rest .entry)) ⌝ }
+{
+    if falls {
+        if has_minus(rest) {
+            return 1;
+        }
+        return 0;
+    }
+    0
+}
+
 // The number at the front, where `falls` says whether a minus sign is allowed.
 pub fn signed(rest: &[u8], falls: bool) -> Reading
     ensures { λ r. ⌜ Reads falls (field 0 (fields (now (rest .entry)))) r ⌝ }
 {
-    if falls {
-        if has_minus(rest) {
-            let number = unsigned(&rest[1..]);
-            let right = number.right;
-            let size = number.size;
-            let length = number.length;
-            if right {
-                return Reading {
-                    right: size > 0,
-                    minus: true,
-                    size,
-                    length: length + 1,
-                };
-            }
-            return number;
-        }
-        return unsigned(rest);
+    let sign = sign_length(rest, falls);
+    let number = unsigned(&rest[sign..]);
+    if sign == 0 {
+        return number;
     }
-    unsigned(rest)
+    let right = number.right;
+    let size = number.size;
+    let length = number.length;
+    if right {
+        return Reading {
+            right: size > 0,
+            minus: true,
+            size,
+            length: length + 1,
+        };
+    }
+    number
 }

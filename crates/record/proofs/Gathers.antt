@@ -18,7 +18,7 @@ use Rattle.numbers.specs.Number.{capped, hasMinus, Reads}
 use Rattle.field.specs.Place.{Starts}
 use Rattle.numbers.specs.declared.number.Reading.{Reading}
 use Rattle.field.proofs.Fields.{rest-whole, has-field, no-field, next-starts, ends}
-use Rattle.record.specs.Gather.{Gathered}
+use Rattle.record.specs.Gather.{Room, Gathered}
 
 written-cons : (word : Word) (k : ℕ) (f : List ℕ) (fs : List (List ℕ)) → allWritten word k (f ∷ fs) ≡ (isWritten (mayFall word k) f && allWritten word (k + 1) fs)
 unfolding allWritten
@@ -52,19 +52,18 @@ pub record Gathering (s : List ℕ) (word : Word) (place expected at k : ℕ) (m
   pub signs : (i : ℕ) → place ≤ i → i < k → getD ms i false ≡ hasMinus (field i (fields s))
   pub sizes : (i : ℕ) → place ≤ i → i < k → getD ns i 0 ≡ capped (field i (fields s))
 
-pub gather-start : (s : List ℕ) (word : Word) (place expected at : ℕ) (ms : List Bool) (ns : List ℕ) → (place < expected) × (expected ≤ 62) → length ms ≡ 62 → length ns ≡ 62
-    → Starts s place at → Gathering s word place expected at place ms ns
-gather-start s word place expected at ms ns p lm ln h =
+pub gather-start : (s : List ℕ) (word : Word) (place expected at : ℕ) (ms : List Bool) (ns : List ℕ) → Room place expected ms ns → Starts s place at → Gathering s word place expected at place ms ns
+gather-start s word place expected at ms ns p h =
     record {
-      some = p .0;
-      few = p .1;
+      some = p .some;
+      few = p .few;
       above = omega arith;
-      upto = omega arith;
+      upto = omega (arith, p .some);
       starts = h;
       enough = λ lt. absurd (omega arith);
       right = refl;
-      all-ms = lm;
-      all-ns = ln;
+      all-ms = p .signs;
+      all-ns = p .values;
       signs = λ i ge lt. absurd (omega arith);
       sizes = λ i ge lt. absurd (omega arith);
     }

@@ -17,7 +17,7 @@ use Rattle.model.specs.Question.{isShort, hasWord, hasLetter, hasFields, isWell
 use Rattle.model.proofs.Lists.{and-left, and-right}
 use Rattle.field.specs.Word.{isLettered}
 use Rattle.numbers.specs.Number.{capped}
-use Rattle.record.specs.Gather.{Gathered}
+use Rattle.record.specs.Gather.{Room, Gathered}
 use Rattle.record.specs.Column.{each, sizeAt, paidAt}
 use Rattle.record.specs.Request.{refusedAt, asks, answered, readOf, empty, says}
 use Rattle.record.specs.Limits.{judged, callOf, Low, Judgeable}
@@ -84,8 +84,8 @@ module _ (fs : List (List ℕ)) (minus : List Bool) (sizes : List ℕ) where
 
 -- questions 4, 5 and 6
 module _ (s : List ℕ) (word : Word) (letter : ℕ) (p : Lettered s word letter) (expected : ℕ) (ex : expected ≡ fieldCount word letter) (place : ℕ) (e : place ≡ firstNumber word) where
-  pub numbers-room : (place < expected) × (expected ≤ 62)
-  numbers-room = let r = room word letter (p .known) in omega (arith, r .0, r .1)
+  pub numbers-room : (minus : List Bool) (sizes : List ℕ) → length minus ≡ 62 → length sizes ≡ 62 → Room place expected minus sizes
+  numbers-room minus sizes lm ls = let r = room word letter (p .known) in record { some = omega (arith, r .0); few = omega (arith, r .1); signs = lm; values = ls }
 
   there : expected ≡ fieldCount word (letterIn (fields s))
   there = rw (p .second) at ex

@@ -28,10 +28,10 @@ fn ask_numbers(line: &[u8], word: Word, letter: u8) -> Request
 {
     let expected = field_count(word, letter);
     let place = first_number(word);
-    let numbers = gather(line, word, place, expected);
-    let right = numbers.right;
-    if right {
-        return judge(word, letter, &numbers.minus, &numbers.sizes);
+    let mut minus = [false; 62];
+    let mut sizes = [0u64; 62];
+    if gather(line, word, place, expected, &mut minus, &mut sizes) {
+        return judge(word, letter, &minus, &sizes);
     }
     if count(line) == expected {
         return refused(Verdict::Writing);

@@ -19,6 +19,12 @@ start-requires c κs = search needs
 loop-holds : tie.Need-loop-holds Inv-loop μ-loop
 loop-holds c = search gather-start
 
+same-length : tie.Need-same-length Inv-loop μ-loop
+same-length c = omega arith
+
+same-length-2 : tie.Need-same-length-2 Inv-loop μ-loop
+same-length-2 c = omega arith
+
 returns : tie.Need-returns Inv-loop μ-loop
 returns c = search gather-none
 
@@ -37,14 +43,14 @@ may-fall-requires c κs = search needs
 signed-requires : tie.Need-signed-requires Inv-loop μ-loop
 signed-requires c κs = search needs
 
-array-write-minus : tie.Need-array-write-minus Inv-loop μ-loop
-array-write-minus c = omega arith
+slice-write-minus : tie.Need-slice-write-minus Inv-loop μ-loop
+slice-write-minus c = omega arith
 
 mul-sizes : tie.Need-mul-sizes Inv-loop μ-loop
 mul-sizes c = search needs
 
-array-write-sizes : tie.Need-array-write-sizes Inv-loop μ-loop
-array-write-sizes c = omega arith
+slice-write-sizes : tie.Need-slice-write-sizes Inv-loop μ-loop
+slice-write-sizes c = omega arith
 
 add-at : tie.Need-add-at Inv-loop μ-loop
 add-at c =
@@ -52,7 +58,8 @@ add-at c =
     let number = test .before in
     let inside = number .before .before .before in
     let z = inside .before .before in
-    omega (arith, number-ends (z .before .before .before .args .line .now) (z .loop .at) (inside .if1 .left) (number .before .may-fall .result) (number .signed .result) (number .signed .ensures) (test .if2 .taken))
+    let entry = z .before .before .before .before .before in
+    omega (arith, entry .good, number-ends (entry .args .line .now) (z .loop .at) (inside .if1 .left) (number .before .may-fall .result) (number .signed .result) (number .signed .ensures) (test .if2 .taken))
 
 add-at-2 : tie.Need-add-at-2 Inv-loop μ-loop
 add-at-2 c =
@@ -60,7 +67,8 @@ add-at-2 c =
     let number = test .before in
     let inside = number .before .before .before in
     let z = inside .before .before in
-    omega (arith, number-ends (z .before .before .before .args .line .now) (z .loop .at) (inside .if1 .left) (number .before .may-fall .result) (number .signed .result) (number .signed .ensures) (test .if2 .taken))
+    let entry = z .before .before .before .before .before in
+    omega (arith, entry .good, number-ends (entry .args .line .now) (z .loop .at) (inside .if1 .left) (number .before .may-fall .result) (number .signed .result) (number .signed .ensures) (test .if2 .taken))
 
 add-k : tie.Need-add-k Inv-loop μ-loop
 add-k c = omega arith
@@ -71,8 +79,20 @@ loop-less c = omega arith
 loop-again : tie.Need-loop-again Inv-loop μ-loop
 loop-again c = search gather-on
 
+same-length-3 : tie.Need-same-length-3 Inv-loop μ-loop
+same-length-3 c = omega arith
+
+same-length-4 : tie.Need-same-length-4 Inv-loop μ-loop
+same-length-4 c = omega arith
+
 returns-2 : tie.Need-returns-2 Inv-loop μ-loop
 returns-2 c = search gather-ill
+
+same-length-5 : tie.Need-same-length-5 Inv-loop μ-loop
+same-length-5 c = omega arith
+
+same-length-6 : tie.Need-same-length-6 Inv-loop μ-loop
+same-length-6 c = omega arith
 
 returns-3 : tie.Need-returns-3 Inv-loop μ-loop
 returns-3 c = search gather-end
@@ -85,19 +105,25 @@ gather-spec =
     μ-loop
     start-requires
     loop-holds
+    same-length
+    same-length-2
     returns
     sub-signed
     part-signed-start
     part-signed-end
     may-fall-requires
     signed-requires
-    array-write-minus
+    slice-write-minus
     mul-sizes
-    array-write-sizes
+    slice-write-sizes
     add-at
     add-at-2
     add-k
     loop-less
     loop-again
+    same-length-3
+    same-length-4
     returns-2
+    same-length-5
+    same-length-6
     returns-3)

@@ -11,14 +11,23 @@ field-count-requires c κs = search needs
 first-number-requires : tie.Need-first-number-requires
 first-number-requires c κs = search needs
 
+slice-aggregate-gather : tie.Need-slice-aggregate-gather
+slice-aggregate-gather c = search needs
+
+slice-aggregate-gather-2 : tie.Need-slice-aggregate-gather-2
+slice-aggregate-gather-2 c = search needs
+
 gather-requires : tie.Need-gather-requires
-gather-requires c κs =
-    let count = c .before in
-    let a = count .before .before in
-    numbers-room (a .args .line .now) (named (a .args .word)) (a .args .letter) (a .pre) (count .field-count .result) (count .field-count .ensures) (c .first-number .result) (c .first-number .ensures)
+gather-requires c κs = search numbers-room
 
 judge-requires : tie.Need-judge-requires
-judge-requires c κs = search numbers-judged
+judge-requires c κs =
+    let test = c .before .before in
+    let numbers = test .before .before .before in
+    let place = numbers .before .before .before in
+    let count = place .before in
+    let entry = count .before .before in
+    numbers-judged (entry .args .line .now) (named (entry .args .word)) (entry .args .letter) (entry .pre) (count .field-count .result) (count .field-count .ensures) (place .first-number .result) (place .first-number .ensures) (numbers .gather .result) _ _ (numbers .gather .ensures) (test .if1 .taken)
 
 returns : tie.Need-returns
 returns c = search numbers-are
@@ -44,6 +53,8 @@ ask-numbers-spec =
     (tie.spec
     field-count-requires
     first-number-requires
+    slice-aggregate-gather
+    slice-aggregate-gather-2
     gather-requires
     judge-requires
     returns
