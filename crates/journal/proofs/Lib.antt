@@ -1,4 +1,3 @@
-pub mod LineEnds
 pub mod LineQuestions
 pub mod LineRead
 pub mod Runs

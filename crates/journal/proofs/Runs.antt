@@ -2,7 +2,7 @@
 -- Assumes nothing.
 use mathlib.Core.List.{List, [], map}
 use mathlib.Core.Path.{_≡_, sym, ap, _∙_}
-use Prim.Native.Nat.{ℕ, suc, _+_, _-_, _≤_}
+use Prim.Native.Nat.{ℕ, suc, _+_, _-_, _≤_, _<_}
 use native.Mathlib.Omega.{arith}
 use native.Mathlib.Numerals.{add-one}
 use lib.ListN.{length, take, drop, drop-of-length-le}
@@ -12,12 +12,13 @@ use Rattle.model.specs.Step as model-step
 use Rattle.model.specs.Step.{asBytes}
 use Rattle.model.specs.Run.{after, recordsOf}
 use Rattle.model.proofs.Demand.{demand-of-input}
+use Rattle.line_end.specs.Scan.{EndsAt}
+use Rattle.line_end.proofs.LineParts.{line-ends}
 use Rattle.state.specs.declared.book.Book.{Book}
 use Rattle.ledger.specs.declared.answer.Outcome.{Outcome}
 use Rattle.state.specs.View.{view, IsEmpty}
 use Rattle.ledger.specs.Does.{Does}
 use Rattle.journal.specs.Apply.{slotsAfterAll, Runs}
-use Rattle.journal.specs.Input.{LineEnd}
 
 -- the records from byte `at` on
 abbrev rest : List ℕ → ℕ → List model-step.Request
@@ -33,9 +34,10 @@ pub begin : (input slots : List ℕ) (book : Book) → IsEmpty book → Running 
 begin input slots book e = record { inside = omega arith; books = rw (e slots); lents = rw (e slots) }
 
 module _ (input first : List ℕ) (book : Book) (slots : List ℕ) (at : ℕ) (running : Running input first book slots at) where
-  pub on : (end : ℕ) → LineEnd input at end → (outcome : Outcome) (later : List ℕ) → Does (view book slots) (asBytes (take (end - at) (drop at input))) slots outcome later → Running input first (outcome .book) later (end + 1)
+  pub on : at < length input → (end : ℕ) → EndsAt input at end → (outcome : Outcome) (later : List ℕ) → Does (view book slots) (asBytes (take (end - at) (drop at input))) slots outcome later → Running input first (outcome .book) later (end + 1)
   unfolding after slotsAfterAll
-  on end ends outcome later does =
+  on lt end e outcome later does =
+      let ends = line-ends input at end lt e in
       record {
         inside = omega (arith, ends .inside);
         books = running .books ∙ rw (ends .parts, add-one, ap (λ (o : model-step.Outcome). o .book) (does .outcome));

@@ -11,7 +11,8 @@ use lib.Seq.{take-length, take-take, take-all, drop-length}
 use Rattle.model.proofs.Lists.{true≢false}
 use Rattle.state.specs.declared.book.Book.{Book}
 use Rattle.state.specs.View.{IsEmpty}
-use Rattle.bytes.specs.Bytes.{indexOf, slice}
+use Rattle.bytes.specs.Bytes.{indexOf}
+use Rattle.line_end.specs.Scan.{EndsAt}
 use Rattle.answer.specs.Put.{placed}
 use Rattle.answer.specs.Text.{hasRoom}
 use Rattle.pieces.specs.declared.line.OpenLine.{OpenLine}
@@ -22,16 +23,16 @@ use Rattle.pieces.specs.Progress.{Progress, ended, lengthened, takingAll
 use Rattle.pieces.specs.Feed.{bytesOf, before, progressOf, IsStart, Answers, FedTo, AnswersLines, Feeds, Closes}
 use Rattle.pieces.proofs.LineFound.{line-taken, line-counted}
 use Rattle.pieces.proofs.Joining.{same-front, front-length}
-use Rattle.pieces.proofs.Feeding.{put-in, room-is, short, place}
+use Rattle.pieces.proofs.Feeding.{put-in, room-is, short}
 use Rattle.pieces.proofs.Pieces.{pieces-join}
 
 module _ (book : Book) (slots begun piece out : List ℕ) (r : Lines) (laterSlots laterOut : List ℕ) (f : FedTo (before book slots begun) begun piece out (r .book) (r .begun) (r .at) (r .put) laterSlots laterOut) where
   -- no byte 10 is left
-  pub lines-over : (end : ℕ) → end ≡ r .at + indexOf 10 (slice (r .at) (length piece) piece) → end ≤ length piece → length piece ≤ end → AnswersLines book slots begun piece out r laterSlots laterOut
-  lines-over end e le ge =
+  pub lines-over : (end : ℕ) → EndsAt piece (r .at) end → length piece ≤ end → AnswersLines book slots begun piece out r laterSlots laterOut
+  lines-over end e ge =
       record {
         fed = f;
-        over = λ (room : hasRoom laterOut (r .put) ≡ true). omega (arith, place _ _ _ _ _ _ _ _ _ _ f end e, length-drop (r .at) piece);
+        over = λ (room : hasRoom laterOut (r .put) ≡ true). omega (arith, e .place, e .within, f .inside, length-drop (r .at) piece);
       }
 
   -- or no room

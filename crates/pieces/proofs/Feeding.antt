@@ -9,7 +9,8 @@ use borrow.Author.Tests.{leb-true}
 use lib.ListN.{length, take, drop, length-take, length-drop}
 use lib.Seq.{take-length, take-add, drop-drop}
 use Rattle.state.specs.declared.book.Book.{Book}
-use Rattle.bytes.specs.Bytes.{indexOf, slice}
+use Rattle.bytes.specs.Bytes.{indexOf}
+use Rattle.line_end.specs.Scan.{EndsAt}
 use Rattle.answer.specs.Put.{placed, Puts}
 use Rattle.answer.specs.Text.{hasRoom, PutsWithRoom}
 use Rattle.answer.proofs.Joins.{joined}
@@ -60,10 +61,6 @@ module _ (start : Progress) (begun piece out : List ℕ) (book : Book) (count at
   pub room-is : hasRoom laterOut put ≡ true → length (s .written) + 320 ≤ length out
   room-is room = omega (arith, leb-true (put + 320) (length laterOut) room, f .reached .puts .after-it, f .same)
 
-  pub place : (end : ℕ) → end ≡ at + indexOf 10 (slice at (length piece) piece) → end ≡ at + indexOf 10 rest
-  unfolding slice
-  place end e = e ∙ rw (take-length piece)
-
   -- the bytes up to place `end`
   up-to : (end : ℕ) → at ≤ end → takingAll start (take end piece) ≡ takingAll s (take (end - at) rest)
   up-to end le =
@@ -71,12 +68,12 @@ module _ (start : Progress) (begun piece out : List ℕ) (book : Book) (count at
       let split : take end piece ≡ take at piece ++ take (end - at) rest = ap (λ (k : ℕ). take k piece) parts ∙ take-add at (end - at) piece in
       rw split (pieces-join start (take at piece) (take (end - at) rest))
 
-  module _ (t : Bool) (told : t ≡ hasRoom laterOut put) (yes : t ≡ true) (end : ℕ) (e : end ≡ at + indexOf 10 (slice at (length piece) piece)) where
+  module _ (t : Bool) (told : t ≡ hasRoom laterOut put) (yes : t ≡ true) (end : ℕ) (e : EndsAt piece at end) where
     room : hasRoom laterOut put ≡ true
     room = sym told ∙ yes
 
     here : end ≡ at + indexOf 10 rest
-    here = place end e
+    here = e .place
 
     length-here : end - at ≡ indexOf 10 rest
     length-here = omega (arith, here)
@@ -133,12 +130,11 @@ module _ (start : Progress) (begun piece out : List ℕ) (book : Book) (count at
 -- and the next byte 10 is at `end`, or the piece ends there
 pub record Seeking (book : Book) (first begun piece out : List ℕ) (last : Book) (count at put end : ℕ) (slots laterOut : List ℕ) : Type 0 where
   pub fed : FedTo (before book first begun) begun piece out last count at put slots laterOut
-  pub ends : end ≡ at + indexOf 10 (slice at (length piece) piece)
-  pub within : end ≤ length piece
+  pub ends : EndsAt piece at end
 
-pub seek-start : (book : Book) (slots begun piece out : List ℕ) → length begun ≤ 1025 → (end : ℕ) → end ≡ 0 + indexOf 10 (slice 0 (length piece) piece) → end ≤ length piece
+pub seek-start : (book : Book) (slots begun piece out : List ℕ) → length begun ≤ 1025 → (end : ℕ) → EndsAt piece 0 end
     → Seeking book slots begun piece out book (length begun) 0 0 end slots out
-seek-start book slots begun piece out short end e le = record { fed = feed-start book slots begun piece out short; ends = e; within = le }
+seek-start book slots begun piece out short end e = record { fed = feed-start book slots begun piece out short; ends = e }
 
 module _ (book : Book) (first begun piece out : List ℕ) (last : Book) (count at put end : ℕ) (slots laterOut : List ℕ) (k : Seeking book first begun piece out last count at put end slots laterOut) where
   pub seek-exact : count ≡ length (take count begun)
@@ -146,7 +142,7 @@ module _ (book : Book) (first begun piece out : List ℕ) (last : Book) (count a
 
   pub seek-on : (t : Bool) → t ≡ hasRoom laterOut put → t ≡ true → end < length piece → (r : Answered) (laterSlots lastOut : List ℕ) → length lastOut ≡ length laterOut
       → Answers last slots (take count begun ++ take (end - at) (drop at piece)) laterOut put r laterSlots lastOut
-      → (next : ℕ) → next ≡ end + 1 + indexOf 10 (slice (end + 1) (length piece) piece) → next ≤ length piece
+      → (next : ℕ) → EndsAt piece (end + 1) next
       → Seeking book first begun piece out (r .book) 0 (end + 1) (r .next) next laterSlots lastOut
-  seek-on t told is-room lt r laterSlots lastOut same a next e le =
-      record { fed = feed-on _ _ _ _ _ _ _ _ _ _ (k .fed) t told is-room end (k .ends) lt r laterSlots lastOut same a; ends = e; within = le }
+  seek-on t told is-room lt r laterSlots lastOut same a next e =
+      record { fed = feed-on _ _ _ _ _ _ _ _ _ _ (k .fed) t told is-room end (k .ends) lt r laterSlots lastOut same a; ends = e }

@@ -1,7 +1,7 @@
 // The lines that end in a piece, answered one after the other.
 use crate::answer_line::answer_joined;
 use answer::text::has_room;
-use bytes::scan::find;
+use line_end::line_end;
 use state::book::Book;
 use state::book::Patterns;
 ghost use Prim.Native.Nat.{_≤_};
@@ -31,7 +31,7 @@ pub fn answer_lines(
     let mut count = begun.len();
     let mut at = 0;
     let mut put = 0;
-    let mut end = find(piece, 0, piece.len(), 10);
+    let mut end = line_end(piece, 0);
     while end < piece.len() && has_room(out, put) {
         let answered = answer_joined(last, patterns, &begun[..count], &piece[at..end], out, put);
         let later = answered.book;
@@ -39,7 +39,7 @@ pub fn answer_lines(
         put = answered.next;
         count = 0;
         at = end + 1;
-        end = find(piece, at, piece.len(), 10);
+        end = line_end(piece, at);
     }
     Lines {
         book: last,

@@ -13,13 +13,11 @@ Inv-loop patterns₀ begun piece out₀ last₀ count₀ at₀ put₀ end₀ pat
 abbrev μ-loop : tie.MeasureT-loop
 μ-loop patterns₀ begun piece out₀ last₀ count₀ at₀ put₀ end₀ patterns out last count at put end = length piece - end
 
-find-requires : tie.Need-find-requires Inv-loop μ-loop
-find-requires c κs = search needs
+line-end-requires : tie.Need-line-end-requires Inv-loop μ-loop
+line-end-requires c κs = search needs
 
 loop-holds : tie.Need-loop-holds Inv-loop μ-loop
-loop-holds c =
-    let found = c .find .ensures in
-    search (seek-start, found .0, found .1)
+loop-holds c = search seek-start
 
 has-room-requires : tie.Need-has-room-requires Inv-loop μ-loop
 has-room-requires c κs = search needs
@@ -42,18 +40,14 @@ answer-joined-requires c κs = search needs
 add-at : tie.Need-add-at Inv-loop μ-loop
 add-at c = search (needs, c .before .before .before .before .before .before .before .before .before .before .before .before .before .before .before .before .before .good .1 .1 .1 .0)
 
-find-requires-2 : tie.Need-find-requires-2 Inv-loop μ-loop
-find-requires-2 c κs = search needs
+line-end-requires-2 : tie.Need-line-end-requires-2 Inv-loop μ-loop
+line-end-requires-2 c κs = search needs
 
 loop-less : tie.Need-loop-less Inv-loop μ-loop
-loop-less c =
-    let found = c .find2 .ensures in
-    search (needs, found .0)
+loop-less c = search needs
 
 loop-again : tie.Need-loop-again Inv-loop μ-loop
-loop-again c =
-    let found = c .find2 .ensures in
-    search (seek-on, found .0, found .1)
+loop-again c = search seek-on
 
 same-length : tie.Need-same-length Inv-loop μ-loop
 same-length c = search needs
@@ -73,7 +67,7 @@ answer-lines-spec =
     (tie.spec
     Inv-loop
     μ-loop
-    find-requires
+    line-end-requires
     loop-holds
     has-room-requires
     slice-aggregate-answer-joined
@@ -82,7 +76,7 @@ answer-lines-spec =
     part-answer-joined-end
     answer-joined-requires
     add-at
-    find-requires-2
+    line-end-requires-2
     loop-less
     loop-again
     same-length
