@@ -21,7 +21,7 @@ few : (t : Bool) (kept n : ℕ) → (if t then min kept n else 0) ≤ n
 few true kept n = omega arith
 few false kept n = omega arith
 
-pub kept-few : (letter : ℕ) (line : Line) → keptCount letter line ≤ ages letter
+kept-few : (letter : ℕ) (line : Line) → keptCount letter line ≤ ages letter
 unfolding keptCount
 kept-few letter line = few (isYear (line .last)) (line .kept) (ages letter)
 

@@ -5,6 +5,5 @@ pub mod KeptYears
 pub mod Maps
 pub mod Places
 pub mod RatePlaces
-pub mod Reading
 pub mod Views
 pub mod Writes

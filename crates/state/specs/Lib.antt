@@ -1,5 +1,4 @@
 pub mod Lines
 pub mod Patterns
 pub mod Rates
-pub mod Read
 pub mod View

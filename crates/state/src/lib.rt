@@ -4,4 +4,3 @@ mod cells;
 pub mod lines;
 pub mod patterns;
 pub mod rates;
-pub mod read;

@@ -29,16 +29,15 @@ pub fn kept_count(letter: u8, line: Line) -> usize
 
 // A factor of the slot of a letter and an accident year, or its composite at place 10. Where there is no slot or place, 0.
 pub fn factor_in(patterns: &Patterns, letter: u8, year: u64, place: usize) -> u64
-    ensures { λ r. ⌜ r ≡ factorAt (now (patterns .entry)) letter year place ⌝ }
+    ensures { λ r. ⌜ (length (now (patterns .entry)) ≡ 1650) × (r ≡ factorAt (now (patterns .entry)) letter year place) ⌝ }
 {
+    let slots: &[u64] = patterns;
     if place > 10 {
         return 0;
     }
     if is_covered(letter) {
         let at = slot_of(letter, year) * 11 + place;
-        let factor = Factor {
-            value: patterns[at],
-        };
+        let factor = Factor { value: slots[at] };
         return factor.number();
     }
     0

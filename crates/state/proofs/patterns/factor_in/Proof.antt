@@ -20,11 +20,11 @@ mul-at c = search needs
 add-at : tie.Need-add-at
 add-at c = search needs
 
-mul-t9 : tie.Need-mul-t9
-mul-t9 c = search needs
+mul-t11 : tie.Need-mul-t11
+mul-t11 c = search needs
 
-element-copy-out-t13 : tie.Need-element-copy-out-t13
-element-copy-out-t13 c = search needs
+shared-slice-read-t14 : tie.Need-shared-slice-read-t14
+shared-slice-read-t14 c = search needs
 
 number-requires : tie.Need-number-requires
 number-requires c κs = search needs
@@ -44,8 +44,8 @@ factor-in-spec =
     slot-of-requires
     mul-at
     add-at
-    mul-t9
-    element-copy-out-t13
+    mul-t11
+    shared-slice-read-t14
     number-requires
     returns-2
     returns-3)

@@ -1,8 +1,8 @@
--- `state::read::figures` meets its contract. Assumes nothing.
+-- `figures::line_figures::figures` meets its contract. Assumes nothing.
 use borrow.Author.Needs.{needs}
-use Rattle.state.proofs.Reading.{of-line}
-use Rattle.state.proofs.read.figures.Statement.{statement}
-use Rattle.state.proofs.read.figures.Tie as tie
+use Rattle.figures.proofs.FiguresShown.{of-line}
+use Rattle.figures.proofs.line_figures.figures.Statement.{statement}
+use Rattle.figures.proofs.line_figures.figures.Tie as tie
 
 line-of-requires : tie.Need-line-of-requires
 line-of-requires c κs = search needs

@@ -1,8 +1,8 @@
--- `state::read::is_kept` meets its contract. Assumes nothing.
+-- `figures::kept_pattern::is_kept` meets its contract. Assumes nothing.
 use borrow.Author.Needs.{needs}
-use Rattle.state.proofs.Reading.{counted-back, past-last}
-use Rattle.state.proofs.read.is_kept.Statement.{statement}
-use Rattle.state.proofs.read.is_kept.Tie as tie
+use Rattle.figures.proofs.PatternFound.{counted-back, past-last}
+use Rattle.figures.proofs.kept_pattern.is_kept.Statement.{statement}
+use Rattle.figures.proofs.kept_pattern.is_kept.Tie as tie
 
 line-of-requires : tie.Need-line-of-requires
 line-of-requires c κs = search needs

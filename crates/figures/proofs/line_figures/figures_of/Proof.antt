@@ -1,8 +1,8 @@
--- `state::read::figures_of` meets its contract. Assumes nothing.
+-- `figures::line_figures::figures_of` meets its contract. Assumes nothing.
 use borrow.Author.Needs.{needs}
-use Rattle.state.proofs.Reading.{undeclared, declared-open, declared-closed}
-use Rattle.state.proofs.read.figures_of.Statement.{statement}
-use Rattle.state.proofs.read.figures_of.Tie as tie
+use Rattle.figures.proofs.FiguresShown.{undeclared, declared-open, declared-closed}
+use Rattle.figures.proofs.line_figures.figures_of.Statement.{statement}
+use Rattle.figures.proofs.line_figures.figures_of.Tie as tie
 
 number-requires : tie.Need-number-requires
 number-requires c κs = search needs

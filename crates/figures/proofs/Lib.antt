@@ -1,0 +1,3 @@
+pub mod FactorsRead
+pub mod FiguresShown
+pub mod PatternFound
