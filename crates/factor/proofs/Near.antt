@@ -22,8 +22,8 @@ use Rattle.model.specs.Demand.{unpaidAt, exactAt}
 use Rattle.model.proofs.Lists.{and-left, and-right}
 use Rattle.model.proofs.Near.{composite-near}
 use Rattle.model.proofs.Ages.{Sized, schedule-sized, length-ages-of, kept-count, kept-near}
+use Rattle.payments.specs.declared.schedule.Verdict.the-variants.{Fine, Length, Limits, Incurred, Falls}
 use Rattle.factor.specs.declared.pattern.Pattern.{Pattern}
-use Rattle.factor.specs.declared.pattern.Verdict.the-variants.{Fine, Length, Limits, Incurred, Falls}
 use Rattle.factor.specs.Pattern.{refused, keptOf, patternOf}
 
 -- a fine verdict has passed every question

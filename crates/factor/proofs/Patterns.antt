@@ -1,4 +1,4 @@
--- The steps from the lists of a pattern record to the kept pattern.
+-- The steps from the payments at all ages to the kept pattern.
 -- Assumes nothing.
 use mathlib.Core.Path.{_≡_, refl, ap, _∙_}
 use mathlib.Core.Bool.{true, false}
@@ -6,20 +6,22 @@ use mathlib.Core.List.{List, _++_}
 use Prim.Native.Nat.{ℕ, suc, _+_, _-_, _≤_, _<_}
 use native.Mathlib.Omega.{arith}
 use native.Mathlib.Numerals.{add-one}
-use lib.ListN.{length, take, drop, getD, set, replicate, length-append, length-take, List·getD-append}
+use lib.ListN.{length, take, drop, getD, set, replicate, take-append-drop, List·getD-append}
 use lib.Seq.{take-all, take-suc, take-append-le, length-take-le, append-snoc, set-at}
+use Rattle.model.specs.Basics.{sum}
 use Rattle.model.specs.Letter.{tenYear, ages}
 use Rattle.model.specs.HalfYear.{halfYear}
 use Rattle.model.specs.Pattern.{unpaid}
-use Rattle.model.specs.Tail.{tenYearTail, twoYearTail}
 use Rattle.model.specs.Factor.{factor, factors, keptFactors}
 use Rattle.model.specs.Composite.{mean, composite}
+use Rattle.model.proofs.Lists.{sum-append}
 use Rattle.model.proofs.HalfYear.{half-year-small}
 use Rattle.model.proofs.Ages.{at-age, length-factors}
-use Rattle.factor.specs.declared.pattern.Verdict.the-variants.{Fine}
+use Rattle.payments.specs.declared.schedule.Verdict.the-variants.{Fine}
+use Rattle.payments.specs.Schedule.{allAges}
 use Rattle.factor.specs.Composite.{Averaged}
 use Rattle.factor.specs.Walk.{Walkable, Walked}
-use Rattle.factor.specs.Pattern.{keptOf, allAges, tailed}
+use Rattle.factor.specs.Pattern.{keptOf}
 
 -- the copy of the first factors
 pub record Copying (fs kept : List ℕ) (i n : ℕ) : Type 0 where
@@ -45,14 +47,15 @@ copy-on fs kept i n c lt =
 pub copy-end : (fs kept : List ℕ) (i n : ℕ) → Copying fs kept i n → n ≤ i → kept ≡ take n fs ++ replicate (10 - n) 0
 copy-end fs kept i n c le = let e : i ≡ n = omega (arith, c .inside) in rw e at (c .all)
 
--- the payments with their tail
-pub ten-tailed : (letter : ℕ) (pay r : List ℕ) (u : ℕ) → tenYear letter ≡ true → length pay ≡ 16 → r ≡ take 10 pay ++ tenYearTail (getD pay 9 0) u → take (allAges letter) r ≡ tailed letter pay u
-ten-tailed letter pay r u t n e =
-    let l : length r ≤ 16 = rw e (rw (length-append (take 10 pay) (tenYearTail (getD pay 9 0) u), length-take 10 pay) (omega arith)) in
-    rw t (take-all 16 r l ∙ e)
+-- the payments at all ages, in their places
+pub ten-part : (letter : ℕ) (pay : List ℕ) → tenYear letter ≡ true → length pay ≡ 16 → take (allAges letter) pay ≡ pay
+ten-part letter pay t n = rw t (take-all 16 pay (omega arith))
 
-pub two-tailed : (letter : ℕ) (pay r : List ℕ) (u : ℕ) → tenYear letter ≡ false → take 4 r ≡ take 2 pay ++ twoYearTail u → take (allAges letter) r ≡ tailed letter pay u
-two-tailed letter pay r u t e = rw t e
+pub two-part : (letter : ℕ) (pay : List ℕ) → tenYear letter ≡ false → take (allAges letter) pay ≡ take 4 pay
+two-part letter pay t = rw t
+
+pub part-small : (n : ℕ) (pay : List ℕ) → unpaid (take n pay) ≤ unpaid pay
+part-small n pay = omega (arith, sum-append (take n pay) (drop n pay), ap sum (take-append-drop n pay))
 
 -- what the walk and the mean are given
 pub walkable : (R half number : ℕ) (pay out : List ℕ) → half ≡ halfYear R → number ≡ R → R ≤ 2500 → length out ≡ length pay → unpaid pay ≤ 200000000 → Walkable pay 0 half number out

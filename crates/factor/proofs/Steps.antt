@@ -14,10 +14,17 @@ use Rattle.model.proofs.Lists.{drop-next}
 use Rattle.model.proofs.FactorBounds.{year-back-at-most, factor-at-most}
 use Rattle.factor.specs.Walk.{Weighable, Walkable, Walked}
 
--- the sum that is divided fits
-pub weighed-small : (p v f half rate : ℕ) → Weighable p v f half rate → p * half + v * yearBack (10000 + rate) f ≤ 2000000000000000000
-weighed-small p v f half rate w =
-    omega (arith, mul-le-mul-left v (year-back-at-most half (10000 + rate) f (omega arith) (w .small-next)), mul-le-mul (w .part) (w .small-half))
+-- what the products are at most: the sum that is divided fits
+pub record Weighed (p v next back half : ℕ) : Type 0 where
+  pub all : (p + v) * half ≤ 2000000000000000000
+  pub payment-back : p * back ≤ p * half
+  pub later-back : v * back ≤ v * half
+  pub later-next : v * next ≤ v * half
+
+pub weighed : (p v next half rate : ℕ) → Weighable p v next half rate → Weighed p v next (yearBack (10000 + rate) next) half
+weighed p v next half rate w =
+    let b : yearBack (10000 + rate) next ≤ half = year-back-at-most half (10000 + rate) next (omega arith) (w .small-next) in
+    record { all = omega (arith, mul-le-mul (w .part) (w .small-half)); payment-back = mul-le-mul-left p b; later-back = mul-le-mul-left v b; later-next = mul-le-mul-left v (w .small-next) }
 
 -- no age is left
 pub done : (pay : List ℕ) (at half rate : ℕ) (out : List ℕ) → Walkable pay at half rate out → at ≡ length pay → Walked pay at half rate out out 0 half

@@ -1,5 +1,3 @@
 pub mod Composite
 pub mod Pattern
-pub mod Payment
-pub mod Ratio
 pub mod Walk

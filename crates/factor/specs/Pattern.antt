@@ -1,22 +1,21 @@
 -- What `pattern` answers.
 -- Assumes nothing: these are definitions.
-use mathlib.Core.Path.{_≡_}
-use mathlib.Core.Bool.{true, _&&_}
+use mathlib.Core.Bool.{_&&_}
 use mathlib.Core.List.{List, _++_}
 use Prim.Native.Nat.{ℕ, _-_}
-use lib.ListN.{length, take, getD, replicate}
+use lib.ListN.{replicate}
 use Rattle.model.specs.Basics.{if_then_else_, all}
 use Rattle.model.specs.Kind.{isAmount}
-use Rattle.model.specs.Letter.{tenYear, ages}
+use Rattle.model.specs.Letter.{ages}
 use Rattle.model.specs.Pattern.{agesOf}
-use Rattle.model.specs.Tail.{tenYearTail, twoYearTail, schedule}
+use Rattle.model.specs.Tail.{schedule}
 use Rattle.model.specs.Factor.{keptFactors}
 use Rattle.model.specs.Composite.{composite}
 use Rattle.model.specs.Call.{addPattern}
 use Rattle.model.specs.Question.{hasLengths, hasIncurred, climbs}
+use Rattle.payments.specs.declared.schedule.Verdict.{Verdict}
+use Rattle.payments.specs.declared.schedule.Verdict.the-variants.{Fine, Length, Limits, Incurred, Falls}
 use Rattle.factor.specs.declared.pattern.Pattern.{Pattern}
-use Rattle.factor.specs.declared.pattern.Verdict.{Verdict}
-use Rattle.factor.specs.declared.pattern.Verdict.the-variants.{Fine, Length, Limits, Incurred, Falls}
 
 -- what a refusal holds beside its verdict
 abbrev pub refused : Verdict → Pattern
@@ -39,18 +38,3 @@ patternOf letter rate paid incurred =
     if hasLengths (addPattern letter 0 paid incurred)
     then (if all isAmount paid && all isAmount incurred then judgedOf letter rate paid incurred else refused Limits)
     else refused Length
-
--- lists that questions 4 and 6 let through
-pub record Listed (letter : ℕ) (paid incurred : List ℕ) : Type 0 where
-  pub paid-length : length paid ≡ ages letter
-  pub incurred-length : length incurred ≡ ages letter
-  pub paid-amounts : all isAmount paid ≡ true
-  pub incurred-amounts : all isAmount incurred ≡ true
-
--- how many ages a schedule has
-abbrev pub allAges : ℕ → ℕ
-allAges letter = if tenYear letter then 16 else 4
-
--- the payments at the given ages, which stand first, and the tail
-abbrev pub tailed : ℕ → List ℕ → ℕ → List ℕ
-tailed letter pay unpaid = if tenYear letter then take 10 pay ++ tenYearTail (getD pay 9 0) unpaid else take 2 pay ++ twoYearTail unpaid

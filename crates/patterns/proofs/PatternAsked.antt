@@ -17,8 +17,8 @@ use Rattle.model.specs.Step.{asNumbers}
 use Rattle.model.proofs.Lists.{true≢false}
 use Rattle.kinds.specs.declared.rate.Rate.{Rate}
 use Rattle.kinds.specs.Rate.{rateNumber}
+use Rattle.payments.specs.declared.schedule.Verdict.the-variants as verdict
 use Rattle.factor.specs.declared.pattern.Pattern.{Pattern}
-use Rattle.factor.specs.declared.pattern.Verdict.the-variants as verdict
 use Rattle.factor.specs.Pattern as factor
 use Rattle.factor.specs.Pattern.{keptOf, patternOf}
 use Rattle.state.specs.declared.book.Book.{Book}

@@ -11,8 +11,8 @@ use Rattle.model.specs.Kind.{isYear}
 use Rattle.model.specs.Published.{published}
 use Rattle.model.specs.Call.{addPattern}
 use Rattle.model.specs.Question.{Sound}
-use Rattle.factor.specs.declared.pattern.Verdict.{Verdict}
-use Rattle.factor.specs.declared.pattern.Verdict.the-variants as verdict
+use Rattle.payments.specs.declared.schedule.Verdict.{Verdict}
+use Rattle.payments.specs.declared.schedule.Verdict.the-variants as verdict
 use Rattle.state.specs.declared.book.Book.{Book}
 use Rattle.state.specs.declared.book.Line.{Line}
 use Rattle.ledger.specs.declared.answer.Refusal.{Refusal}

@@ -1,5 +1,4 @@
 // "PATT, letter, year, then paid and incurred an age"
-use factor::pattern::Verdict;
 use factor::pattern::discount;
 use factor::published::published;
 use kinds::rate::Rate;
@@ -12,6 +11,7 @@ use ledger::refuse::refuse;
 use letters::letter::ages;
 use letters::letter::is_covered;
 use money::amount::Amount;
+use payments::schedule::Verdict;
 use state::book::Book;
 use state::book::Line;
 use state::book::Patterns;

@@ -1,8 +1,8 @@
 // A line of output: the rate, the verdict's question (0: fine), the kept factors and the composite, parted by spaces.
 use factor::pattern::Pattern;
-use factor::pattern::Verdict;
 use kinds::rate::Rate;
 use libc::STDOUT_FILENO;
+use payments::schedule::Verdict;
 
 pub fn show(letter: u8, rate: u64, paid: &[u64], incurred: &[u64]) {
     let given = Rate { value: rate };

@@ -5,7 +5,7 @@ use borrow.Author.Needs.{needs}
 use lib.ListN.{length, take}
 use lib.Seq.{length-take-le}
 use Rattle.kinds.specs.Rate.{rateNumber}
-use Rattle.factor.proofs.Patterns.{walkable, two-kept}
+use Rattle.factor.proofs.Patterns.{part-small, walkable, two-kept}
 use Rattle.factor.proofs.pattern.keep_two_year.Statement.{statement}
 use Rattle.factor.proofs.pattern.keep_two_year.Tie as tie
 
@@ -34,7 +34,7 @@ walk-requires : tie.Need-walk-requires
 walk-requires c κs =
     let s = c .before .before .before .before in
     let n : length (s .args .t3) ≡ 16 = search needs in
-    walkable (rateNumber (s .args .rate)) _ _ (take 4 (s .args .t3)) _ (c .before .before .before .half-year .ensures) (c .before .before .number .ensures) (omega arith) (sym (length-take-le 4 (s .args .t3) (omega arith))) (s .pre .1)
+    walkable (rateNumber (s .args .rate)) _ _ (take 4 (s .args .t3)) _ (c .before .before .before .half-year .ensures) (c .before .before .number .ensures) (omega arith) (sym (length-take-le 4 (s .args .t3) (omega arith))) (omega (arith, part-small 4 (s .args .t3), s .pre .1))
 
 first-requires : tie.Need-first-requires
 first-requires c κs = search needs

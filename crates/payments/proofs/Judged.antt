@@ -1,0 +1,87 @@
+-- The questions that a pattern's lists are asked, in order, and the schedule that is left.
+-- Assumes nothing.
+use mathlib.Core.Path.{_≡_, refl, sym, _∙_}
+use mathlib.Core.Bool.{Bool, true, false}
+use mathlib.Core.List.{List, [], _∷_, _++_, map, append-nil}
+use Prim.Native.Nat.{ℕ, zero, suc, _-_, _*_, _<_}
+use native.Mathlib.Omega.{arith}
+use borrow.Author.Tests.{eq-eqb, ne-eqb}
+use lib.ListN.{length, take, getD, replicate}
+use Rattle.model.specs.Basics.{if_then_else_, all, lastOr}
+use Rattle.model.specs.Kind.{isAmount}
+use Rattle.model.specs.Letter.{tenYear, ages}
+use Rattle.model.specs.Pattern.{agesOf, cumulative, payments}
+use Rattle.model.specs.Tail.{tenYearTail, twoYearTail, schedule}
+use Rattle.model.specs.Question.{isIncurred}
+use Rattle.model.proofs.Ages.{ages-small}
+use Rattle.payments.specs.declared.schedule.Schedule.{Schedule}
+use Rattle.payments.specs.declared.schedule.Verdict.the-variants.{Fine, Length, Limits, Incurred, Falls}
+use Rattle.payments.specs.Payment.{Paired, Payable, Paid}
+use Rattle.payments.specs.Schedule.{refused, judgedOf, scheduleOf, Listed, inPlaces, tailed}
+
+-- what the loops over the ages are given
+pub paired : (letter : ℕ) (paid incurred : List ℕ) → Listed letter paid incurred → Paired paid incurred
+paired letter paid incurred g = record { same = omega (arith, g .paid-length, g .incurred-length); few = omega (arith, g .paid-length, ages-small letter) }
+
+pub payable : (letter : ℕ) (paid incurred : List ℕ) → Listed letter paid incurred → all isIncurred (agesOf paid incurred) ≡ true → Payable paid incurred
+payable letter paid incurred g q = record { pairs = paired letter paid incurred g; amounts = g .incurred-amounts; sound = q }
+
+-- the last of the first n + 1
+last-taken : (d : ℕ) (l : List ℕ) (n : ℕ) → n < length l → lastOr d (take (suc n) l) ≡ getD l n 0
+last-taken d [] n lt = absurd (omega arith)
+last-taken d (x ∷ l) zero lt = refl
+last-taken d (x ∷ l) (suc n) lt = last-taken x l n (omega arith)
+
+-- the payments of the ages and their tail are document 01's schedule
+module _ (letter : ℕ) (paid incurred pay : List ℕ) (last : ℕ) (climbs : Bool) (t : climbs ≡ true) (g : Listed letter paid incurred) (s : Paid paid incurred climbs pay last) where
+  abbrev cumulatives : List ℕ
+  cumulatives = map cumulative (agesOf paid incurred)
+
+  by-kind : (ten : Bool) → length paid ≡ (if ten then 10 else 2)
+      → (if ten then take 10 pay ++ tenYearTail (getD pay 9 0) (200000000 - 2 * last) else take 2 pay ++ twoYearTail (200000000 - 2 * last))
+      ≡ payments 0 cumulatives ++ (if ten then tenYearTail (lastOr 0 (payments 0 cumulatives)) (200000000 - lastOr 0 cumulatives) else twoYearTail (200000000 - lastOr 0 cumulatives))
+  by-kind true e =
+      let p : take 10 pay ≡ payments 0 cumulatives = rw e at (s .by-age t) in
+      rw (← s .in-all t, ← p, last-taken 0 pay 9 (omega (arith, s .places)))
+  by-kind false e =
+      let p : take 2 pay ≡ payments 0 cumulatives = rw e at (s .by-age t) in
+      rw (← s .in-all t, ← p)
+
+  pub schedule-is : tailed letter pay (200000000 - 2 * last) ≡ schedule letter (agesOf paid incurred)
+  unfolding schedule ages
+  schedule-is = by-kind (tenYear letter) (g .paid-length)
+
+-- the payments with their tail, in their places
+pub ten-tailed : (letter : ℕ) (pay r : List ℕ) (u : ℕ) → tenYear letter ≡ true → r ≡ take 10 pay ++ tenYearTail (getD pay 9 0) u → r ≡ inPlaces letter (tailed letter pay u)
+ten-tailed letter pay r u t e = rw t (e ∙ sym (append-nil (take 10 pay ++ tenYearTail (getD pay 9 0) u)))
+
+pub two-tailed : (letter : ℕ) (pay r : List ℕ) (u : ℕ) → tenYear letter ≡ false → r ≡ take 2 pay ++ twoYearTail u ++ replicate 12 0 → r ≡ inPlaces letter (tailed letter pay u)
+two-tailed letter pay r u t e = rw t e
+
+-- the schedule, from questions 11 and 12 on
+pub judged-fine : (letter : ℕ) (paid incurred : List ℕ) (climbs : Bool) (pay all-pay : List ℕ) (last : ℕ) → climbs ≡ true → Listed letter paid incurred → Paid paid incurred climbs pay last → all isIncurred (agesOf paid incurred) ≡ true
+    → all-pay ≡ inPlaces letter (tailed letter pay (200000000 - 2 * last)) → record { verdict = Fine; pay = all-pay } ≡ judgedOf letter paid incurred
+judged-fine letter paid incurred climbs pay all-pay last t g s q11 e = rw (q11, sym (s .climbing) ∙ t, e, schedule-is letter paid incurred pay last climbs t g s)
+
+module _ (letter : ℕ) (paid incurred : List ℕ) (r : Schedule) where
+  pub judged-falls : (climbs : Bool) (pay : List ℕ) (last : ℕ) → climbs ≡ false → Paid paid incurred climbs pay last → all isIncurred (agesOf paid incurred) ≡ true → r ≡ refused Falls → r ≡ judgedOf letter paid incurred
+  judged-falls climbs pay last t s q11 k = rw (q11, sym (s .climbing) ∙ t) k
+
+  pub judged-incurred : all isIncurred (agesOf paid incurred) ≡ false → r ≡ refused Incurred → r ≡ judgedOf letter paid incurred
+  judged-incurred q11 k = rw q11 k
+
+  -- and questions 4 and 6
+  pub length-paid : (length paid ≡ ages letter → ⊥) → r ≡ refused Length → r ≡ scheduleOf letter paid incurred
+  length-paid n k = rw (ne-eqb (length paid) (ages letter) n) k
+
+  pub length-incurred : length paid ≡ ages letter → (length incurred ≡ ages letter → ⊥) → r ≡ refused Length → r ≡ scheduleOf letter paid incurred
+  length-incurred e n k = rw (eq-eqb (length paid) (ages letter) e, ne-eqb (length incurred) (ages letter) n) k
+
+  pub limits-paid : length paid ≡ ages letter → length incurred ≡ ages letter → all isAmount paid ≡ false → r ≡ refused Limits → r ≡ scheduleOf letter paid incurred
+  limits-paid e n a k = rw (eq-eqb (length paid) (ages letter) e, eq-eqb (length incurred) (ages letter) n, a) k
+
+  pub limits-incurred : length paid ≡ ages letter → length incurred ≡ ages letter → all isAmount paid ≡ true → all isAmount incurred ≡ false → r ≡ refused Limits → r ≡ scheduleOf letter paid incurred
+  limits-incurred e n a b k = rw (eq-eqb (length paid) (ages letter) e, eq-eqb (length incurred) (ages letter) n, a, b) k
+
+  pub judged : length paid ≡ ages letter → length incurred ≡ ages letter → all isAmount paid ≡ true → all isAmount incurred ≡ true → r ≡ judgedOf letter paid incurred → r ≡ scheduleOf letter paid incurred
+  judged e n a b k = rw (eq-eqb (length paid) (ages letter) e, eq-eqb (length incurred) (ages letter) n, a, b) k

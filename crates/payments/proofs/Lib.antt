@@ -1,0 +1,4 @@
+pub mod Ages
+pub mod Judged
+pub mod Tails
+pub mod Whole

@@ -1,0 +1,82 @@
+-- For callers: a fine schedule is document 01's of the lists, in its places, and its payments are a whole together.
+-- Assumes nothing.
+use mathlib.Core.Path.{_≡_, refl, ap, _∙_}
+use mathlib.Core.Bool.{Bool, true, false, _&&_}
+use mathlib.Core.List.{List, [], _∷_, map}
+use Prim.Native.Nat.{ℕ, zero, suc, _+_, _-_}
+use native.Mathlib.Omega.{arith}
+use borrow.Author.Tests.{eqb-true}
+use lib.Dec.{eqb}
+use lib.ListN.{length, take, replicate, length-append, length-map}
+use lib.Seq.{take-at}
+use Rattle.model.specs.Basics.{if_then_else_, all, lastOr, sum}
+use Rattle.model.specs.Kind.{isAmount}
+use Rattle.model.specs.Letter.{tenYear, ages}
+use Rattle.model.specs.Pattern.{Age, agesOf, cumulative, payments, whole}
+use Rattle.model.specs.Tail.{tenYearTail, twoYearTail, schedule}
+use Rattle.model.specs.Call.{addPattern}
+use Rattle.model.specs.Question.{hasLengths, hasIncurred, climbs}
+use Rattle.model.proofs.Lists.{and-left, and-right, sum-append}
+use Rattle.model.proofs.Ages.{length-ages-of}
+use Rattle.model.proofs.Unpaid.{payments-are-whole}
+use Rattle.payments.specs.declared.schedule.Schedule.{Schedule}
+use Rattle.payments.specs.declared.schedule.Verdict.the-variants.{Fine, Length, Limits, Incurred, Falls}
+use Rattle.payments.specs.Schedule.{refused, scheduleOf, allAges, inPlaces}
+
+-- a schedule has a payment for each of its ages
+length-payments : (before : ℕ) (cumulatives : List ℕ) → length (payments before cumulatives) ≡ length cumulatives
+length-payments before [] = refl
+length-payments before (c ∷ cumulatives) = ap suc (length-payments c cumulatives)
+
+length-schedule : (letter : ℕ) (given : List Age) → length given ≡ ages letter → length (schedule letter given) ≡ allAges letter
+unfolding schedule ages
+length-schedule letter given e =
+    let cumulatives : List ℕ = map cumulative given in
+    rw length-append (by-kind (tenYear letter) _ (lastOr 0 (payments 0 cumulatives)) (whole - lastOr 0 cumulatives) (length-payments 0 cumulatives ∙ length-map given cumulative ∙ e))
+  where
+    by-kind : (t : Bool) (n p left : ℕ) → n ≡ (if t then 10 else 2) → n + length (if t then tenYearTail p left else twoYearTail left) ≡ (if t then 16 else 4)
+    by-kind true n p left e = omega arith
+    by-kind false n p left e = omega arith
+
+sum-zeros : (n : ℕ) → sum (replicate n 0) ≡ 0
+sum-zeros zero = refl
+sum-zeros (suc n) = omega (arith, sum-zeros n)
+
+-- a fine verdict has passed every question
+record Passed (a b c d : Bool) : Type 0 where
+  lengths : a ≡ true
+  limits : b ≡ true
+  incurred : c ≡ true
+  climbing : d ≡ true
+
+fine-passes : (a b c d : Bool) (s : Schedule) → (if a then (if b then (if c then (if d then s else refused Falls) else refused Incurred) else refused Limits) else refused Length) .verdict ≡ Fine → Passed a b c d
+fine-passes true true true true s e = record { lengths = refl; limits = refl; incurred = refl; climbing = refl }
+fine-passes true true true false s e = let z : _≡_ {A = ℕ} 0 1 = cc in absurd (omega arith)
+fine-passes true true false d s e = let z : _≡_ {A = ℕ} 0 1 = cc in absurd (omega arith)
+fine-passes true false c d s e = let z : _≡_ {A = ℕ} 0 1 = cc in absurd (omega arith)
+fine-passes false b c d s e = let z : _≡_ {A = ℕ} 0 1 = cc in absurd (omega arith)
+
+module _ (letter : ℕ) (paid incurred : List ℕ) (fine : scheduleOf letter paid incurred .verdict ≡ Fine) where
+  abbrev given : List Age
+  given = agesOf paid incurred
+
+  passed : Passed (hasLengths (addPattern letter 0 paid incurred)) (all isAmount paid && all isAmount incurred) (hasIncurred (addPattern letter 0 paid incurred)) (climbs (addPattern letter 0 paid incurred))
+  passed =
+      fine-passes (hasLengths (addPattern letter 0 paid incurred)) (all isAmount paid && all isAmount incurred) (hasIncurred (addPattern letter 0 paid incurred)) (climbs (addPattern letter 0 paid incurred)) (record { verdict = Fine; pay = inPlaces letter (schedule letter given) }) fine
+
+  in-places : scheduleOf letter paid incurred .pay ≡ inPlaces letter (schedule letter given)
+  in-places = rw (passed .lengths, passed .limits, passed .incurred, passed .climbing)
+
+  -- its first places are the payments at all ages
+  pub fine-pays : take (allAges letter) (scheduleOf letter paid incurred .pay) ≡ schedule letter given
+  fine-pays =
+      let n : Bool = eqb (length paid) (ages letter) in
+      let m : Bool = eqb (length incurred) (ages letter) in
+      let l = length-ages-of (ages letter) paid incurred (eqb-true _ _ (and-left n m (passed .lengths))) (eqb-true _ _ (and-right n m (passed .lengths))) in
+      rw in-places (take-at (schedule letter given) (replicate (16 - allAges letter) 0) (allAges letter) (length-schedule letter given l))
+
+  -- "so a whole is 200,000,000"
+  pub fine-is-whole : sum (scheduleOf letter paid incurred .pay) ≡ whole
+  fine-is-whole =
+      rw in-places
+      (omega (arith, sum-append (schedule letter given) (replicate (16 - allAges letter) 0), sum-zeros (16 - allAges letter), payments-are-whole letter given (passed .incurred) (passed .climbing)))

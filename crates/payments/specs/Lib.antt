@@ -1,0 +1,3 @@
+pub mod Payment
+pub mod Ratio
+pub mod Schedule
