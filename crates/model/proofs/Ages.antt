@@ -30,7 +30,7 @@ unfolding factors
 length-factors H D [] = refl
 length-factors H D (p ∷ later) = ap suc (length-factors H D later)
 
-length-payments : (before : ℕ) (cumulatives : List ℕ) → length (payments before cumulatives) ≡ length cumulatives
+pub length-payments : (before : ℕ) (cumulatives : List ℕ) → length (payments before cumulatives) ≡ length cumulatives
 length-payments before [] = refl
 length-payments before (c ∷ cumulatives) = ap suc (length-payments c cumulatives)
 

@@ -17,17 +17,13 @@ use Rattle.model.specs.Tail.{tenYearTail, twoYearTail, schedule}
 use Rattle.model.specs.Call.{addPattern}
 use Rattle.model.specs.Question.{hasLengths, hasIncurred, climbs}
 use Rattle.model.proofs.Lists.{and-left, and-right, sum-append}
-use Rattle.model.proofs.Ages.{length-ages-of}
+use Rattle.model.proofs.Ages.{length-ages-of, length-payments}
 use Rattle.model.proofs.Unpaid.{payments-are-whole}
 use Rattle.payments.specs.declared.schedule.Schedule.{Schedule}
 use Rattle.payments.specs.declared.schedule.Verdict.the-variants.{Fine, Length, Limits, Incurred, Falls}
 use Rattle.payments.specs.Schedule.{refused, scheduleOf, allAges, inPlaces}
 
 -- a schedule has a payment for each of its ages
-length-payments : (before : ℕ) (cumulatives : List ℕ) → length (payments before cumulatives) ≡ length cumulatives
-length-payments before [] = refl
-length-payments before (c ∷ cumulatives) = ap suc (length-payments c cumulatives)
-
 length-schedule : (letter : ℕ) (given : List Age) → length given ≡ ages letter → length (schedule letter given) ≡ allAges letter
 unfolding schedule ages
 length-schedule letter given e =
