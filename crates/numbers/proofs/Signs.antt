@@ -3,15 +3,15 @@
 use mathlib.Core.Bool.{Bool, true, false, not, _&&_, false≢true}
 use mathlib.Core.Path.{_≡_, refl, sym, ap, _∙_}
 use mathlib.Core.List.{List, [], _∷_}
-use Prim.Native.Nat.{ℕ, suc, _+_, _-_, _≤_, min}
+use Prim.Native.Nat.{ℕ, suc, _+_, _-_, _≤_, _<_, min}
 use native.Mathlib.Omega.{arith}
-use borrow.Author.Tests.{eqb-true, eqb-false, lt-ltb}
+use borrow.Author.Tests.{eqb-true, eqb-false, eq-eqb, lt-ltb}
 use lib.Dec.{eqb, ltb}
 use lib.ListN.{length, take, drop}
 use Rattle.model.specs.Basics.{if_then_else_}
 use Rattle.model.specs.Field.{fields, field}
 use Rattle.model.specs.Number.{natural, isPlain, isWritten}
-use Rattle.numbers.specs.Number.{most, capped, hasMinus, signLength, Found, Reads}
+use Rattle.numbers.specs.Number.{most, capped, hasMinus, signLength, noNumber, Found, Reads}
 use Rattle.numbers.specs.declared.number.Digits.{Digits}
 use Rattle.numbers.specs.declared.number.Reading.{Reading}
 use Rattle.field.proofs.Scan.{before, first-field}
@@ -82,6 +82,18 @@ no-minus-by : (f : List ℕ) (t : Bool) → hasMinus f ≡ t → isPlain f ≡ t
 no-minus-by f true e p = sym (plain-minus f e) ∙ p
 no-minus-by f false e p = refl
 
+-- a field that is not well written
+none-read : (falls : Bool) (f : List ℕ) (r : Reading) → false ≡ isWritten falls f → r ≡ noNumber → Reads falls f r
+none-read falls f r e q =
+    let wrong : r .right ≡ false = rw q in
+    record {
+      written = wrong ∙ e;
+      sign = λ y. absurd (false≢true (sym wrong ∙ y));
+      value = λ y. absurd (false≢true (sym wrong ∙ y));
+      long = λ y. absurd (false≢true (sym wrong ∙ y));
+      none = λ y. q;
+    }
+
 -- a minus sign adds nothing to the size
 pub natural-minus : (f : List ℕ) → hasMinus f ≡ true → natural f ≡ natural (drop 1 f)
 unfolding natural
@@ -89,14 +101,20 @@ natural-minus [] e = refl
 natural-minus (b ∷ bs) e = let z : b ≡ 45 = eqb-true b 45 e in rw z
 
 -- a number without a sign
-pub unsigned-is : (s : List ℕ) (d : Digits) → Found s d → (t : Bool) → t ≡ isPlain (field 0 (fields s)) → Reads false (field 0 (fields s)) record { right = t; minus = false; size = d .size; length = d .length }
-unsigned-is s d h t et =
-    record {
-      written = et ∙ sym (written-never (field 0 (fields s)));
-      sign = λ q. no-minus-by (field 0 (fields s)) (hasMinus (field 0 (fields s))) refl (sym et ∙ q);
-      value = λ q. rw (plain-field s (sym et ∙ q)) (h .value);
-      long = λ q. rw (plain-field s (sym et ∙ q)) (h .long);
-    }
+module _ (s : List ℕ) (t : Bool) (et : t ≡ isPlain (field 0 (fields s))) where
+  pub unsigned-is : (d : Digits) → Found s d → t ≡ true → Reads false (field 0 (fields s)) record { right = true; minus = false; size = d .size; length = d .length }
+  unsigned-is d h t1 =
+      let plain : isPlain (field 0 (fields s)) ≡ true = sym et ∙ t1 in
+      record {
+        written = sym plain ∙ sym (written-never (field 0 (fields s)));
+        sign = λ q. no-minus-by (field 0 (fields s)) (hasMinus (field 0 (fields s))) refl plain;
+        value = λ q. rw (plain-field s plain) (h .value);
+        long = λ q. rw (plain-field s plain) (h .long);
+        none = λ q. absurd (false≢true (sym q));
+      }
+
+  pub unsigned-none : t ≡ false → (r : Reading) → r ≡ noNumber → Reads false (field 0 (fields s)) r
+  unsigned-none t0 r e = none-read false (field 0 (fields s)) r (sym (written-never (field 0 (fields s)) ∙ sym et ∙ t0)) e
 
 -- the sign of the field at the front is that of the rest
 same-by : (b : ℕ) (bs : List ℕ) (t : Bool) → eqb b 9 ≡ t → hasMinus (before (b ∷ bs)) ≡ hasMinus (b ∷ bs)
@@ -127,7 +145,7 @@ module _ (s : List ℕ) (falls t : Bool) (ef : falls ≡ true) (et : t ≡ hasMi
   plus t0 r h =
       let w : isWritten falls (field 0 (fields s)) ≡ isWritten false (field 0 (fields s)) =
       written-plain falls (field 0 (fields s)) (sign ∙ t0) ∙ sym (written-never (field 0 (fields s))) in
-      record { written = h .written ∙ sym w; sign = h .sign; value = h .value; long = h .long }
+      record { written = h .written ∙ sym w; sign = h .sign; value = h .value; long = h .long; none = h .none }
 
   module _ (t1 : t ≡ true) (n : Reading) (h : Reads false (field 0 (fields (take (length s - 1) (drop 1 s)))) n) where
     part : field 0 (fields (take (length s - 1) (drop 1 s))) ≡ drop 1 (field 0 (fields s))
@@ -138,8 +156,20 @@ module _ (s : List ℕ) (falls t : Bool) (ef : falls ≡ true) (et : t ≡ hasMi
         let p : n .right ≡ isPlain (drop 1 (field 0 (fields s))) = rw (← part) (h .written ∙ written-never (field 0 (fields (take (length s - 1) (drop 1 s))))) in
         rw (ef, written-minus (field 0 (fields s)) (sign ∙ t1), p)
 
-    ill : n .right ≡ false → Reads falls (field 0 (fields s)) n
-    ill e = record { written = e ∙ sym (rw e at written); sign = λ q. absurd (false≢true (sym e ∙ q)); value = λ q. absurd (false≢true (sym e ∙ q)); long = λ q. absurd (false≢true (sym e ∙ q)) }
+    right-by : (t : Bool) → n .right ≡ t → 0 < n .size → n .right ≡ true
+    right-by true q lt = q
+    right-by false q lt = absurd (omega (arith, ap (λ (r : Reading). r .size) (h .none q)))
+
+    -- "before a nonzero paid"
+    some : 0 < n .size → n .right ≡ true
+    some lt = right-by (n .right) refl lt
+
+    zero-by : (t : Bool) → n .right ≡ t → n .size ≡ 0 → false ≡ isWritten falls (field 0 (fields s))
+    zero-by true q z =
+        let zero : capped (drop 1 (field 0 (fields s))) ≡ 0 = rw (← part) (sym (h .value q) ∙ z) in
+        let none : eqb (natural (drop 1 (field 0 (fields s)))) 0 ≡ true = eq-eqb (natural (drop 1 (field 0 (fields s)))) 0 (omega arith) in
+        sym (written ∙ rw (q, none))
+    zero-by false q z = sym (written ∙ rw q)
 
     module _ (e : n .right ≡ true) where
       size : n .size ≡ capped (drop 1 (field 0 (fields s)))
@@ -153,13 +183,14 @@ module _ (s : List ℕ) (falls t : Bool) (ef : falls ≡ true) (et : t ≡ hasMi
       fits : n .length + 1 ≤ length s
       fits = omega (arith, long, ap length (first-field s), before-le s)
 
-      below : Reads falls (field 0 (fields s)) record { right = ltb 0 (n .size); minus = true; size = n .size; length = n .length + 1 }
-      below =
+      below : 0 < n .size → Reads falls (field 0 (fields s)) record { right = true; minus = true; size = n .size; length = n .length + 1 }
+      below lt =
           record {
-            written = rw (written, e, size) (nonzero (natural (drop 1 (field 0 (fields s)))));
+            written = sym (written ∙ rw (e, ← (nonzero (natural (drop 1 (field 0 (fields s))))), ← size) (lt-ltb 0 (n .size) lt));
             sign = λ q. sym (sign ∙ t1);
             value = λ q. rw (natural-minus (field 0 (fields s)) (sign ∙ t1)) size;
             long = λ q. long;
+            none = λ q. absurd (false≢true (sym q));
           }
 
 none-by : (s : List ℕ) (falls t : Bool) (l : ℕ) → hasMinus s ≡ t → l ≡ (if falls then (if t then 1 else 0) else 0) → l ≡ 0 → (r : Reading) → Reads false (field 0 (fields s)) r → Reads falls (field 0 (fields s)) r
@@ -179,11 +210,11 @@ module _ (s : List ℕ) (falls : Bool) (l : ℕ) (el : l ≡ signLength falls s)
     after : Reads false (field 0 (fields (take (length s - 1) (drop 1 s)))) n
     after = rw (told .2) at h
 
-    pub signed-ill : n .right ≡ false → Reads falls (field 0 (fields s)) n
-    signed-ill e = ill s falls (hasMinus s) (told .0) refl (told .1) n after e
+    pub signed-fits : 0 < n .size → n .length + 1 ≤ length s
+    signed-fits lt = fits s falls (hasMinus s) (told .0) refl (told .1) n after (some s falls (hasMinus s) (told .0) refl (told .1) n after lt)
 
-    pub signed-fits : n .right ≡ true → n .length + 1 ≤ length s
-    signed-fits e = fits s falls (hasMinus s) (told .0) refl (told .1) n after e
+    pub signed-minus : 0 < n .size → Reads falls (field 0 (fields s)) record { right = true; minus = true; size = n .size; length = n .length + 1 }
+    signed-minus lt = below s falls (hasMinus s) (told .0) refl (told .1) n after (some s falls (hasMinus s) (told .0) refl (told .1) n after lt) lt
 
-    pub signed-minus : n .right ≡ true → Reads falls (field 0 (fields s)) record { right = ltb 0 (n .size); minus = true; size = n .size; length = n .length + 1 }
-    signed-minus e = below s falls (hasMinus s) (told .0) refl (told .1) n after e
+    pub signed-none : n .size ≤ 0 → (r : Reading) → r ≡ noNumber → Reads falls (field 0 (fields s)) r
+    signed-none z r e = none-read falls (field 0 (fields s)) r (zero-by s falls (hasMinus s) (told .0) refl (told .1) n after (n .right) refl (omega arith)) e

@@ -1,6 +1,6 @@
 -- A number as it is read from the front of the rest of a line: its sign, its size, which stops above every limit, and its length.
 -- Assumes nothing: these are definitions.
-use mathlib.Core.Bool.{Bool, true}
+use mathlib.Core.Bool.{Bool, true, false}
 use mathlib.Core.Path.{_≡_}
 use mathlib.Core.List.{List, [], _∷_}
 use Prim.Native.Nat.{ℕ, _+_, _≤_, min}
@@ -48,10 +48,15 @@ pub record Found (rest : List ℕ) (d : Digits) : Type 0 where
   pub long : d .length ≡ length (leading rest)
   pub value : d .size ≡ capped (leading rest)
 
+-- a field that is not well written
+abbrev pub noNumber : Reading
+noNumber = record { right = false; minus = false; size = 0; length = 0 }
+
 -- "A number is digits without leading zeros ("0" alone is right); a minus sign is allowed only before a nonzero paid in YEAR.":
--- whether the field is that, where falls says whether a minus sign is allowed; and if so its sign, size and length
+-- whether the field is that, where falls says whether a minus sign is allowed; and if so its sign, size and length, if not zeros
 pub record Reads (falls : Bool) (f : List ℕ) (r : Reading) : Type 0 where
   pub written : r .right ≡ isWritten falls f
   pub sign : r .right ≡ true → r .minus ≡ hasMinus f
   pub value : r .right ≡ true → r .size ≡ capped f
   pub long : r .right ≡ true → r .length ≡ length f
+  pub none : r .right ≡ false → r ≡ noNumber

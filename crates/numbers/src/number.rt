@@ -6,7 +6,7 @@ ghost use Prim.Native.Nat.{_+_, _*_, _-_, _≤_, min};
 ghost use lib.ListN.{length, drop};
 ghost use Rattle.model.specs.Field.{fields, field};
 ghost use Rattle.model.specs.Number.{isPlain};
-ghost use Rattle.numbers.specs.Number.{most, hasMinus, signLength, leading, isEnd, Told, Found, Reads};
+ghost use Rattle.numbers.specs.Number.{most, hasMinus, signLength, leading, isEnd, noNumber, Told, Found, Reads};
 
 // Above every limit: what a longer number is read as.
 const MOST: u64 = 1000000000000;
@@ -17,7 +17,7 @@ struct Digits {
     pub length: usize,
 }
 
-// Is the field at the front well written? If so, its sign, its size and its length.
+// Is the field at the front well written? If so, its sign, its size and its length; if not, zeros.
 pub struct Reading {
     pub right: bool,
     pub minus: bool,
@@ -105,20 +105,33 @@ fn is_plain(rest: &[u8], count: usize) -> bool
     is_end(rest, count)
 }
 
+// A field that is not well written.
+fn no_number() -> Reading
+    ensures { λ r. ⌜ r ≡ noNumber ⌝ }
+{
+    Reading {
+        right: false,
+        minus: false,
+        size: 0,
+        length: 0,
+    }
+}
+
 // A number without a sign.
 fn unsigned(rest: &[u8]) -> Reading
     ensures { λ r. ⌜ Reads false (field 0 (fields (now (rest .entry)))) r ⌝ }
 {
     let found = leading_digits(rest);
-    let size = found.size;
     let length = found.length;
-    let right = is_plain(rest, length);
-    Reading {
-        right,
-        minus: false,
-        size,
-        length,
+    if is_plain(rest, length) {
+        return Reading {
+            right: true,
+            minus: false,
+            size: found.size,
+            length,
+        };
     }
+    no_number()
 }
 
 // Does the field at the front begin with a minus sign?
@@ -153,16 +166,15 @@ pub fn signed(rest: &[u8], falls: bool) -> Reading
     if sign == 0 {
         return number;
     }
-    let right = number.right;
     let size = number.size;
     let length = number.length;
-    if right {
+    if size > 0 {
         return Reading {
-            right: size > 0,
+            right: true,
             minus: true,
             size,
             length: length + 1,
         };
     }
-    number
+    no_number()
 }
