@@ -1,4 +1,2 @@
 pub mod Fields
-pub mod Forms
 pub mod Scan
-pub mod Words

@@ -16,15 +16,15 @@ use Rattle.model.specs.Record as model
 use Rattle.model.specs.Question.{isWithinLimits}
 use Rattle.model.proofs.Lists.{and-left, and-right}
 use Rattle.model.proofs.Ages.{ages-small}
-use Rattle.field.specs.Word.{named}
+use Rattle.form.specs.Word.{named}
 use Rattle.numbers.specs.Number.{most}
 use Rattle.record.specs.Column.{each, sizeAt, paidAt}
 use Rattle.record.specs.Request.{asks, empty, says}
 use Rattle.record.specs.Limits.{judged, callOf, Low, Judgeable}
 use Rattle.record.specs.declared.request.Request.{Request}
 use Rattle.record.specs.declared.request.Verdict.the-variants.{Limits}
-use Rattle.field.specs.declared.word.Word.{Word}
-use Rattle.field.specs.declared.word.Word.the-variants.{Line, Rate, Patt, Year, Other}
+use Rattle.form.specs.declared.word.Word.{Word}
+use Rattle.form.specs.declared.word.Word.the-variants.{Line, Rate, Patt, Year, Other}
 
 -- the first n of an array
 module _ {A : Type 0} (letter k : ℕ) (e : k ≡ ages letter) (list : List A) where

@@ -15,7 +15,7 @@ use Rattle.model.specs.Field.{fields, field, letterIn, column}
 use Rattle.model.specs.Record.{Word, LINE, RATE, PATT, YEAR, OTHER, wordOf, fieldCount, firstNumber, allWritten, callFrom}
 use Rattle.model.specs.Question.{isShort, hasWord, hasLetter, hasFields, isWellWritten, isWithinLimits, lineQuestions, firstNo}
 use Rattle.model.proofs.Lists.{and-left, and-right}
-use Rattle.field.specs.Word.{isLettered}
+use Rattle.form.specs.Word.{isLettered}
 use Rattle.numbers.specs.Number.{capped}
 use Rattle.record.specs.Gather.{Room, Gathered}
 use Rattle.record.specs.Column.{each, sizeAt, paidAt}

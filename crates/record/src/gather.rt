@@ -1,10 +1,10 @@
 // "Is the count of fields right?" and "Is every number well written?" in one pass: all numbers of a line, each at its field's place.
 use field::field::start;
-use field::form::may_fall;
-use field::word::Word;
+use form::form::may_fall;
+use form::word::Word;
 use numbers::number::signed;
 ghost use Rattle.model.specs.Field.{fields};
-ghost use Rattle.field.specs.Word.{named};
+ghost use Rattle.form.specs.Word.{named};
 ghost use Rattle.record.specs.Gather.{Room, Gathered};
 
 // The numbers from place `place` on: each sign and size at its field's place of the two lists. Not right where there are not as many fields as expected, or one is not well written.

@@ -6,7 +6,7 @@ use crate::column::payments;
 use crate::request::Request;
 use crate::request::Verdict;
 use crate::request::refused;
-use field::word::Word;
+use form::word::Word;
 use kinds::rate::Rate;
 use kinds::year::is_year;
 use letters::letter::ages;
@@ -19,7 +19,7 @@ ghost use mathlib.Core.List.{[]};
 ghost use Rattle.model.specs.Basics.{all};
 ghost use Rattle.model.specs.Kind.{isAmount};
 ghost use Rattle.model.specs.Record.{LINE, RATE, PATT, YEAR};
-ghost use Rattle.field.specs.Word.{named};
+ghost use Rattle.form.specs.Word.{named};
 ghost use Rattle.record.specs.Request.{says};
 ghost use Rattle.record.specs.Limits.{judged, callOf, Low, Judgeable};
 

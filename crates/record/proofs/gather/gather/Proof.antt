@@ -2,7 +2,7 @@
 use Prim.Native.Nat.{_-_}
 use native.Mathlib.Omega.{arith}
 use borrow.Author.Needs.{needs}
-use Rattle.field.specs.Word.{named}
+use Rattle.form.specs.Word.{named}
 use Rattle.record.proofs.Gathers.{number-ends, Gathering, gather-start, gather-none, gather-ill, gather-on, gather-end}
 use Rattle.record.proofs.gather.gather.Statement.{statement}
 use Rattle.record.proofs.gather.gather.Tie as tie

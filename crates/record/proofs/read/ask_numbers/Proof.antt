@@ -1,6 +1,6 @@
 -- `record::read::ask_numbers` meets its contract. Assumes nothing.
 use borrow.Author.Needs.{needs}
-use Rattle.field.specs.Word.{named}
+use Rattle.form.specs.Word.{named}
 use Rattle.record.proofs.Questions.{numbers-room, numbers-judged, numbers-are, numbers-ill, numbers-not}
 use Rattle.record.proofs.read.ask_numbers.Statement.{statement}
 use Rattle.record.proofs.read.ask_numbers.Tie as tie

@@ -1,10 +1,10 @@
--- `field::word::is_same` meets its contract. Assumes nothing.
+-- `form::word::is_same` meets its contract. Assumes nothing.
 use Prim.Native.Nat.{_-_}
 use native.Mathlib.Omega.{arith}
 use lib.ListN.{length}
-use Rattle.field.proofs.Scan.{Matched, match-start, match-never, match-stop, match-on, match-end}
-use Rattle.field.proofs.word.is_same.Statement.{statement}
-use Rattle.field.proofs.word.is_same.Tie as tie
+use Rattle.form.proofs.Matches.{Matched, match-start, match-never, match-stop, match-on, match-end}
+use Rattle.form.proofs.word.is_same.Statement.{statement}
+use Rattle.form.proofs.word.is_same.Tie as tie
 
 abbrev Inv-loop : tie.InvT-loop
 Inv-loop a b i₀ i = Matched a b i

@@ -1,8 +1,8 @@
--- `field::letter::only_byte` meets its contract. Assumes nothing.
+-- `form::letter::only_byte` meets its contract. Assumes nothing.
 use borrow.Author.Needs.{needs}
-use Rattle.field.proofs.Words.{byte-one, byte-none}
-use Rattle.field.proofs.letter.only_byte.Statement.{statement}
-use Rattle.field.proofs.letter.only_byte.Tie as tie
+use Rattle.form.proofs.Words.{byte-one, byte-none}
+use Rattle.form.proofs.letter.only_byte.Statement.{statement}
+use Rattle.form.proofs.letter.only_byte.Tie as tie
 
 shared-slice-read-result : tie.Need-shared-slice-read-result
 shared-slice-read-result c = search needs

@@ -1,8 +1,8 @@
--- `field::word::word_of` meets its contract. Assumes nothing.
+-- `form::word::word_of` meets its contract. Assumes nothing.
 use borrow.Author.Needs.{needs}
-use Rattle.field.proofs.Words.{is-line, is-rate, is-patt, is-year, is-other}
-use Rattle.field.proofs.word.word_of.Statement.{statement}
-use Rattle.field.proofs.word.word_of.Tie as tie
+use Rattle.form.proofs.Words.{is-line, is-rate, is-patt, is-year, is-other}
+use Rattle.form.proofs.word.word_of.Statement.{statement}
+use Rattle.form.proofs.word.word_of.Tie as tie
 
 slice-aggregate-is-same : tie.Need-slice-aggregate-is-same
 slice-aggregate-is-same c = search needs

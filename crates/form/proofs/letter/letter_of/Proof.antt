@@ -1,8 +1,8 @@
--- `field::letter::letter_of` meets its contract. Assumes nothing.
+-- `form::letter::letter_of` meets its contract. Assumes nothing.
 use borrow.Author.Needs.{needs}
-use Rattle.field.proofs.Words.{letter-none, letter-is}
-use Rattle.field.proofs.letter.letter_of.Statement.{statement}
-use Rattle.field.proofs.letter.letter_of.Tie as tie
+use Rattle.form.proofs.Words.{letter-none, letter-is}
+use Rattle.form.proofs.letter.letter_of.Statement.{statement}
+use Rattle.form.proofs.letter.letter_of.Tie as tie
 
 start-requires : tie.Need-start-requires
 start-requires c κs = search needs

@@ -1,8 +1,8 @@
--- `field::form::may_fall` meets its contract. Assumes nothing.
+-- `form::form::may_fall` meets its contract. Assumes nothing.
 use borrow.Author.Needs.{needs}
-use Rattle.field.proofs.Forms.{fall-year}
-use Rattle.field.proofs.form.may_fall.Statement.{statement}
-use Rattle.field.proofs.form.may_fall.Tie as tie
+use Rattle.form.proofs.Forms.{fall-year}
+use Rattle.form.proofs.form.may_fall.Statement.{statement}
+use Rattle.form.proofs.form.may_fall.Tie as tie
 
 enum-told : tie.Need-enum-told
 enum-told c = search needs

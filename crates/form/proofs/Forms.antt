@@ -6,9 +6,9 @@ use Prim.Native.Nat.{ℕ, _%_}
 use lib.Dec.{eqb}
 use Rattle.model.specs.Letter.{tenYear, covered}
 use Rattle.model.specs.Record.{fieldCount, mayFall}
-use Rattle.field.specs.Word.{named, isLettered}
-use Rattle.field.specs.declared.word.Word.{Word}
-use Rattle.field.specs.declared.word.Word.the-variants.{Line, Patt, Year}
+use Rattle.form.specs.Word.{named, isLettered}
+use Rattle.form.specs.declared.word.Word.{Word}
+use Rattle.form.specs.declared.word.Word.the-variants.{Line, Patt, Year}
 
 pub fall-year : (word : Word) (k : ℕ) → word ≡ Year → eqb (k % 3) 0 ≡ mayFall (named word) k
 fall-year word k e = rw e

@@ -3,7 +3,7 @@ ghost use mathlib.Core.Path.{_≡_};
 ghost use Rattle.model.specs.Basics.{same};
 ghost use Rattle.model.specs.Record.{wordOf};
 ghost use Rattle.model.specs.Question.{hasWord};
-ghost use Rattle.field.specs.Word.{named};
+ghost use Rattle.form.specs.Word.{named};
 
 pub enum Word {
     Line,

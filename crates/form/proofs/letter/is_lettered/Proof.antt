@@ -1,8 +1,8 @@
--- `field::letter::is_lettered` meets its contract. Assumes nothing.
+-- `form::letter::is_lettered` meets its contract. Assumes nothing.
 use borrow.Author.Needs.{needs}
-use Rattle.field.proofs.Forms.{line-letter, patt-letter, year-letter}
-use Rattle.field.proofs.letter.is_lettered.Statement.{statement}
-use Rattle.field.proofs.letter.is_lettered.Tie as tie
+use Rattle.form.proofs.Forms.{line-letter, patt-letter, year-letter}
+use Rattle.form.proofs.letter.is_lettered.Statement.{statement}
+use Rattle.form.proofs.letter.is_lettered.Tie as tie
 
 enum-told : tie.Need-enum-told
 enum-told c = search needs

@@ -1,8 +1,8 @@
--- `field::form::field_count` meets its contract. Assumes nothing.
+-- `form::form::field_count` meets its contract. Assumes nothing.
 use borrow.Author.Needs.{needs}
-use Rattle.field.proofs.Forms.{patt-ten, patt-two, year-ten, year-two}
-use Rattle.field.proofs.form.field_count.Statement.{statement}
-use Rattle.field.proofs.form.field_count.Tie as tie
+use Rattle.form.proofs.Forms.{patt-ten, patt-two, year-ten, year-two}
+use Rattle.form.proofs.form.field_count.Statement.{statement}
+use Rattle.form.proofs.form.field_count.Tie as tie
 
 enum-told : tie.Need-enum-told
 enum-told c = search needs

@@ -1,11 +1,11 @@
 // "But for RATE: is the second field a covered letter? (no second field is a no)": the letter that the second field is.
-use crate::field::first;
-use crate::field::start;
 use crate::word::Word;
+use field::field::first;
+use field::field::start;
 use letters::letter::is_covered;
 ghost use mathlib.Core.Path.{_≡_};
 ghost use Rattle.model.specs.Field.{fields, onlyByte, letterIn};
-ghost use Rattle.field.specs.Word.{named, isLettered};
+ghost use Rattle.form.specs.Word.{named, isLettered};
 
 // The byte that a field is; 0, which is no letter, for a field of another length.
 fn only_byte(field: &[u8]) -> u8

@@ -4,8 +4,8 @@ use mathlib.Core.Bool.{Bool, true, false}
 use Prim.Native.Nat.{ℕ}
 use Rattle.model.specs.Letter.{covered}
 use Rattle.model.specs.Record as model
-use Rattle.field.specs.declared.word.Word.{Word}
-use Rattle.field.specs.declared.word.Word.the-variants.{Line, Rate, Patt, Year, Other}
+use Rattle.form.specs.declared.word.Word.{Word}
+use Rattle.form.specs.declared.word.Word.the-variants.{Line, Rate, Patt, Year, Other}
 
 abbrev pub named : Word → model.Word
 named Line = model.LINE

@@ -3,7 +3,7 @@ use crate::word::Word;
 use letters::letter::is_ten_year;
 ghost use mathlib.Core.Path.{_≡_};
 ghost use Rattle.model.specs.Record.{fieldCount, firstNumber, mayFall};
-ghost use Rattle.field.specs.Word.{named};
+ghost use Rattle.form.specs.Word.{named};
 
 // "RATE, year, sixty rates: 62 fields." "PATT ..: 23 or 7 fields." "YEAR ..: 36 or 12 fields."
 pub fn field_count(word: Word, letter: u8) -> usize
