@@ -83,7 +83,7 @@ no-minus-by f true e p = sym (plain-minus f e) ∙ p
 no-minus-by f false e p = refl
 
 -- a field that is not well written
-none-read : (falls : Bool) (f : List ℕ) (r : Reading) → false ≡ isWritten falls f → r ≡ noNumber → Reads falls f r
+pub none-read : (falls : Bool) (f : List ℕ) (r : Reading) → false ≡ isWritten falls f → r ≡ noNumber → Reads falls f r
 none-read falls f r e q =
     let wrong : r .right ≡ false = rw q in
     record {

@@ -105,8 +105,8 @@ fn is_plain(rest: &[u8], count: usize) -> bool
     is_end(rest, count)
 }
 
-// A field that is not well written.
-fn no_number() -> Reading
+// A field that is not well written, or none.
+pub fn no_number() -> Reading
     ensures { λ r. ⌜ r ≡ noNumber ⌝ }
 {
     Reading {

@@ -1,0 +1,39 @@
+-- The number in the field that begins at a place of a line.
+-- Assumes nothing.
+use mathlib.Core.Bool.{Bool, true, false, false≢true}
+use mathlib.Core.Path.{_≡_, refl, sym, _∙_}
+use mathlib.Core.List.{List, []}
+use Prim.Native.Nat.{ℕ, _+_, _-_, _≤_, _<_}
+use native.Mathlib.Omega.{arith, by-contra}
+use lib.ListN.{length, take, drop, drop-of-length-le}
+use Rattle.model.specs.Field.{fields, field}
+use Rattle.model.specs.Number.{isWritten}
+use Rattle.field.proofs.Fields.{rest-whole, ends as field-ends}
+use Rattle.numbers.specs.Number.{noNumber, Reads}
+use Rattle.numbers.proofs.Signs.{none-read}
+use Rattle.numbers.specs.declared.number.Reading.{Reading}
+
+none-written : (falls : Bool) → isWritten falls (field 0 (fields [])) ≡ false
+unfolding fields isWritten
+none-written falls = refl
+
+-- past the line's end no number is well written
+past-written : (s : List ℕ) (at : ℕ) (falls : Bool) → length s < at → isWritten falls (field 0 (fields (drop at s))) ≡ false
+past-written s at falls past =
+    let le : length s ≤ at = omega arith in
+    rw (drop-of-length-le s le) (none-written falls)
+
+pub past-end : (s : List ℕ) (at : ℕ) (falls : Bool) → length s < at → (r : Reading) → r ≡ noNumber → Reads falls (field 0 (fields (drop at s))) r
+past-end s at falls past r e = none-read falls (field 0 (fields (drop at s))) r (sym (past-written s at falls past)) e
+
+-- the rest of the line from a place on runs to its end
+pub within : (s : List ℕ) (at : ℕ) (falls : Bool) (r : Reading) → Reads falls (field 0 (fields (take (length s - at) (drop at s)))) r → Reads falls (field 0 (fields (drop at s))) r
+within s at falls r h = rw (rest-whole s at) at h
+
+module _ (s : List ℕ) (at : ℕ) (falls : Bool) (r : Reading) (h : Reads falls (field 0 (fields (drop at s))) r) (e : r .right ≡ true) where
+  -- a number that is well written begins and ends within the line
+  pub begins : at ≤ length s
+  begins = by-contra at (length s) (λ (past : length s < at). absurd (false≢true (sym (h .written ∙ past-written s at falls past) ∙ e)))
+
+  pub ends : at + r .length ≤ length s
+  ends = rw (h .long e) (field-ends s at (field 0 (fields (drop at s))) begins (rw (rest-whole s at)))

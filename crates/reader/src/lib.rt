@@ -1,0 +1,46 @@
+// "The reader of a line carries the line and its place."
+// The borrow checker covers no function over a struct that holds a slice: `begin`, `number` and `read_number` are proved by hand, and thin.
+// `number` leaves the work to `number_at`, which takes a plain slice and is covered, and every other caller calls `read_number`, whose parameters are plain too.
+use numbers::number::Reading;
+use numbers::number::no_number;
+use numbers::number::signed;
+ghost use mathlib.Core.Path.{_≡_};
+ghost use lib.ListN.{drop};
+ghost use Rattle.model.specs.Field.{fields, field};
+ghost use Rattle.numbers.specs.Number.{Reads};
+
+pub struct Reader<'a> {
+    pub line: &'a [u8],
+    pub at: usize,
+}
+
+// The number in the field that begins at a place, where `falls` says whether a minus sign is allowed. Past the line's end there is none, so it is not right.
+pub fn number_at(line: &[u8], at: usize, falls: bool) -> Reading
+    ensures { λ r. ⌜ Reads falls (field 0 (fields (drop at (now (line .entry))))) r ⌝ }
+{
+    if at > line.len() {
+        return no_number();
+    }
+    signed(&line[at..], falls)
+}
+
+// The reader of a line at a place.
+pub fn begin<'a>(line: &'a [u8], at: usize) -> Reader<'a>
+    ensures { λ r. ⌜ (r .line ≡ line .entry) × (r .at ≡ at) ⌝ }
+{
+    Reader { line, at }
+}
+
+// The number at the reader's place.
+pub fn number<'a>(reader: Reader<'a>, falls: bool) -> Reading
+    ensures { λ n. ⌜ Reads falls (field 0 (fields (drop (reader .entry .at) (now (reader .entry .line))))) n ⌝ }
+{
+    number_at(reader.line, reader.at, falls)
+}
+
+// The number in the field that begins at a place, by the reader of the line.
+pub fn read_number(line: &[u8], at: usize, falls: bool) -> Reading
+    ensures { λ n. ⌜ Reads falls (field 0 (fields (drop at (now (line .entry))))) n ⌝ }
+{
+    number(begin(line, at), falls)
+}
