@@ -15,7 +15,7 @@ use Rattle.model.specs.Step.{asBytes, asNumbers}
 use Rattle.record.specs.declared.request.Request.{Request}
 use Rattle.record.specs.declared.request.Verdict.{Verdict}
 use Rattle.record.specs.declared.request.Verdict.the-variants as verdict
-use Rattle.record.specs.Request.{refusedAt, patternCall, yearCall, saying, says, readOf}
+use Rattle.record.specs.Request.{refusedAt, patternCall, yearCall, saying, requestOf, readOf}
 use Rattle.record.proofs.request.Verdict.{the-type}
 use Rattle.record.proofs.Answers.{said}
 use Rattle.state.specs.declared.book.Book.{Book}
@@ -40,7 +40,7 @@ refused-as verdict.SetRate request told = absurd (miss (0 ∷ 1 ∷ 2 ∷ 3 ∷ 
 refused-as verdict.AddPattern request told = absurd (miss (0 ∷ 1 ∷ 2 ∷ 3 ∷ 4 ∷ 5 ∷ []) 8 tt told)
 refused-as verdict.CloseYear request told = absurd (miss (0 ∷ 1 ∷ 2 ∷ 3 ∷ 4 ∷ 5 ∷ []) 9 tt told)
 
-module _ (line : List ℕ) (request : Request) (reads : says request ≡ readOf line) (book : Book) (r : Outcome) (slots : List ℕ) where
+module _ (line : List ℕ) (request : Request) (reads : request ≡ requestOf (readOf line)) (book : Book) (r : Outcome) (slots : List ℕ) where
   pub refuses : OneOf (0 ∷ 1 ∷ 2 ∷ 3 ∷ 4 ∷ 5 ∷ []) (tagOf the-type (request .verdict)) → (question : Refusal) → question ≡ refusalOf (request .verdict) → r ≡ refusedOf book question → Does (view book slots) (asBytes line) slots r slots
   refuses told question eq er =
       line-refused line slots r book question (said request line reads (request .verdict) refl ∙ refused-as (request .verdict) request told ∙ rw eq) er

@@ -2,13 +2,13 @@
 -- Assumes nothing.
 use mathlib.Core.Bool.{Bool, true, false}
 use mathlib.Core.Path.{_≡_, refl, sym, ap, _∙_}
-use mathlib.Core.List.{List, [], _∷_, _++_, map}
-use Prim.Native.Nat.{ℕ, zero, suc, _+_, _*_, _≤_, _<_}
+use mathlib.Core.List.{List, [], _∷_, _++_, append-nil, map}
+use Prim.Native.Nat.{ℕ, zero, suc, _+_, _-_, _*_, _≤_, _<_}
 use native.Mathlib.Omega.{arith}
 use native.Mathlib.Numerals.{add-one}
 use lib.IntN.{ℤ, pos, negℤ, _-ℤ_, +ℤ-idl}
-use lib.ListN.{length, take, getD, set, length-set}
-use lib.Seq.{take-suc-set, take-all}
+use lib.ListN.{length, getD, set, replicate}
+use lib.Seq.{append-snoc, set-at}
 use mir.Syntax.{w64}
 use mir.Val.{SFits, toZ, ofZ}
 use mir.Facts.{toZ-pos, toZ-ofZ}
@@ -26,36 +26,41 @@ each-none : {A : Type 0} (f : ℕ → A) (step k : ℕ) → each f 0 step k ≡ 
 unfolding each
 each-none f step k = refl
 
--- the values before i are taken
-pub record Taking {A : Type 0} (f : ℕ → A) (step k n room : ℕ) (list : List A) (i : ℕ) : Type 0 where
+pub each-length : {A : Type 0} (f : ℕ → A) (n step k : ℕ) → length (each f n step k) ≡ n
+unfolding each
+each-length f zero step k = refl
+each-length f (suc n) step k = ap suc (each-length f n step (k + step))
+
+-- the values before i are taken, and what comes after them is z
+pub record Taking {A : Type 0} (f : ℕ → A) (z : A) (step k n room : ℕ) (list : List A) (i : ℕ) : Type 0 where
   pub upto : i ≤ n
   pub few : n ≤ room
-  pub long : length list ≡ room
-  pub done : take i list ≡ each f i step k
+  pub done : list ≡ each f i step k ++ replicate (room - i) z
 
-module _ {A : Type 0} (f : ℕ → A) (step k n room : ℕ) where
-  pub take-start : (list : List A) → n ≤ room → length list ≡ room → Taking f step k n room list 0
-  take-start list few long = record { upto = omega arith; few = few; long = long; done = sym (each-none f step k) }
+module _ {A : Type 0} (f : ℕ → A) (z : A) (step k n room : ℕ) where
+  pub take-start : n ≤ room → Taking f z step k n room (replicate room z) 0
+  take-start few =
+      let all-free : room - 0 ≡ room = omega arith in
+      record { upto = omega arith; few = few; done = rw (each-none f step k, all-free) }
 
-  pub take-on : (list : List A) (i : ℕ) (v : A) → Taking f step k n room list i → i < n → v ≡ f (k + i * step) → Taking f step k n room (set list i v) (i + 1)
+  pub take-on : (list : List A) (i : ℕ) (v : A) → Taking f z step k n room list i → i < n → v ≡ f (k + i * step) → Taking f z step k n room (set list i v) (i + 1)
   take-on list i v t lt e =
-      let il : i < length list = omega (arith, t .few, t .long) in
+      let free : room - i ≡ suc (room - (i + 1)) = omega (arith, t .few) in
       record {
         upto = omega arith;
         few = t .few;
-        long = rw length-set (t .long);
-        done = rw (add-one, take-suc-set list i v il, each-snoc f i step k, t .done, e);
+        done = rw (t .done, free, set-at (each f i step k) z (replicate (room - (i + 1)) z) v i (each-length f i step k), add-one i, each-snoc f i step k, append-snoc, e);
       }
 
-  pub take-end : (list : List A) (i : ℕ) → Taking f step k n room list i → n ≤ i → take n list ≡ each f n step k
+  pub take-end : (list : List A) (i : ℕ) → Taking f z step k n room list i → n ≤ i → list ≡ each f n step k ++ replicate (room - n) z
   take-end list i t le = let e : n ≡ i = omega (arith, t .upto) in rw e (t .done)
 
 -- the columns of the code's loops
-pub month-on : (sizes list : List ℕ) (i : ℕ) → Taking (sizeAt sizes) 1 2 60 60 list i → i < 60 → Taking (sizeAt sizes) 1 2 60 60 (set list i (getD sizes (i + 2) 0)) (i + 1)
-month-on sizes list i t lt = take-on (sizeAt sizes) 1 2 60 60 list i (getD sizes (i + 2) 0) t lt (ap (λ (j : ℕ). getD sizes j 0) (omega arith))
+pub month-on : (sizes list : List ℕ) (i : ℕ) → Taking (sizeAt sizes) 0 1 2 60 60 list i → i < 60 → Taking (sizeAt sizes) 0 1 2 60 60 (set list i (getD sizes (i + 2) 0)) (i + 1)
+month-on sizes list i t lt = take-on (sizeAt sizes) 0 1 2 60 60 list i (getD sizes (i + 2) 0) t lt (ap (λ (j : ℕ). getD sizes j 0) (omega arith))
 
-pub month-end : (sizes list : List ℕ) (i : ℕ) → Taking (sizeAt sizes) 1 2 60 60 list i → 60 ≤ i → list ≡ each (sizeAt sizes) 60 1 2
-month-end sizes list i t le = sym (take-all 60 list (omega (arith, t .long))) ∙ take-end (sizeAt sizes) 1 2 60 60 list i t le
+pub month-end : (sizes list : List ℕ) (i : ℕ) → Taking (sizeAt sizes) 0 1 2 60 60 list i → 60 ≤ i → list ≡ each (sizeAt sizes) 60 1 2
+month-end sizes list i t le = take-end (sizeAt sizes) 0 1 2 60 60 list i t le ∙ append-nil (each (sizeAt sizes) 60 1 2)
 
 -- a size and a sign as a signed number
 bits-pos : (n : ℕ) → n ≤ most → toZ w64 n ≡ pos n
@@ -84,11 +89,11 @@ whole-fits false n h = record { sfits = omega arith }
 
 -- the loop over payments: a signed number that is stored is read back from its bits
 pub record Paying (n : ℕ) (minus : List Bool) (sizes : List ℕ) (list : List ℤ) (i : ℕ) : Type 0 where
-  pub taking : Taking (paidAt minus sizes) 3 3 n 11 list i
+  pub taking : Taking (paidAt minus sizes) (pos 0) 3 3 n 11 list i
   pub small : (j : ℕ) → j < n → getD sizes (3 + j * 3) 0 ≤ most
 
-pub pay-start : (n : ℕ) (minus : List Bool) (sizes : List ℕ) (list : List ℤ) → (n ≤ 11) × ((i : ℕ) → i < n → getD sizes (3 + i * 3) 0 ≤ most) → length list ≡ 11 → Paying n minus sizes list 0
-pay-start n minus sizes list p l = record { taking = take-start (paidAt minus sizes) 3 3 n 11 list (p .0) l; small = p .1 }
+pub pay-start : (n : ℕ) (minus : List Bool) (sizes : List ℕ) → (n ≤ 11) × ((i : ℕ) → i < n → getD sizes (3 + i * 3) 0 ≤ most) → Paying n minus sizes (replicate 11 (pos 0)) 0
+pay-start n minus sizes p = record { taking = take-start (paidAt minus sizes) (pos 0) 3 3 n 11 (p .0); small = p .1 }
 
 module _ (n : ℕ) (minus : List Bool) (sizes : List ℕ) (list : List ℤ) (i : ℕ) (p : Paying n minus sizes list i) where
   pub pay-asks : i < n → getD sizes (3 + i * 3) 0 ≤ most
@@ -99,12 +104,12 @@ module _ (n : ℕ) (minus : List Bool) (sizes : List ℕ) (list : List ℤ) (i :
       let f : SFits w64 v = rw e (whole-fits (getD minus (3 + i * 3) false) (getD sizes (3 + i * 3) 0) (p .small i lt)) in
       rw (toZ-ofZ f)
       record {
-        taking = take-on (paidAt minus sizes) 3 3 n 11 list i v (p .taking) lt e;
+        taking = take-on (paidAt minus sizes) (pos 0) 3 3 n 11 list i v (p .taking) lt e;
         small = p .small;
       }
 
-  pub pay-end : n ≤ i → take n list ≡ each (paidAt minus sizes) n 3 3
-  pay-end le = take-end (paidAt minus sizes) 3 3 n 11 list i (p .taking) le
+  pub pay-end : n ≤ i → list ≡ each (paidAt minus sizes) n 3 3 ++ replicate (11 - n) (pos 0)
+  pay-end le = take-end (paidAt minus sizes) (pos 0) 3 3 n 11 list i (p .taking) le
 
 -- a column of a line's fields
 pub each-column : {A : Type 0} (f : ℕ → A) (g : List ℕ → A) (fs : List (List ℕ)) (n step k : ℕ) → ((i : ℕ) → i < n → f (k + i * step) ≡ g (field (k + i * step) fs)) → each f n step k ≡ map g (column n step k fs)

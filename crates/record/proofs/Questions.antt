@@ -1,7 +1,7 @@
 -- The questions one after the other.
 -- Assumes nothing.
 use mathlib.Core.Bool.{Bool, true, false, _&&_, false≢true}
-use mathlib.Core.Path.{_≡_, refl, sym, _∙_}
+use mathlib.Core.Path.{_≡_, refl, sym, ap, _∙_}
 use mathlib.Core.List.{List, [], _∷_, map}
 use Prim.Native.Nat.{ℕ, suc, _+_, _*_, _≤_, _<_}
 use native.Mathlib.Omega.{arith}
@@ -19,7 +19,7 @@ use Rattle.form.specs.Word.{isLettered}
 use Rattle.numbers.specs.Number.{capped}
 use Rattle.record.specs.Gather.{Room, Gathered}
 use Rattle.record.specs.Column.{each, sizeAt, paidAt}
-use Rattle.record.specs.Request.{refusedAt, asks, answered, readOf, empty, says}
+use Rattle.record.specs.Request.{refusedAt, asks, answered, readOf, empty, requestOf}
 use Rattle.record.specs.Limits.{judged, callOf, Low, Judgeable}
 use Rattle.record.specs.Read.{fromWord, fromLetter, fromCount, Lettered}
 use Rattle.record.specs.declared.request.Request.{Request}
@@ -110,22 +110,22 @@ module _ (s : List ℕ) (word : Word) (letter : ℕ) (p : Lettered s word letter
               let n : fieldCount word letter ≡ 6 + 3 * ages letter = rw y (year-count letter) in
               omega (arith, g .values t1 (3 + i * 3) (omega arith) (omega (arith, total, ex)))
 
-      pub numbers-are : (q : Request) → says q ≡ judged (callOf word letter minus sizes) → says q ≡ fromCount word (fields s)
+      pub numbers-are : (q : Request) → q ≡ requestOf (judged (callOf word letter minus sizes)) → q ≡ requestOf (fromCount word (fields s))
       numbers-are q h =
           let w : isWellWritten word (fields s) ≡ true = rw (← e) (and-right (eqb (length (fields s)) expected) (allWritten word place (drop place (fields s))) both) in
           let n : hasFields word (fields s) ≡ true = rw (← there) count in
-          let h' : says q ≡ judged (callOf word (letterIn (fields s)) minus sizes) = rw (p .second) at h in
-          rw (n, w) (h' ∙ same-call (fields s) minus sizes word (p .known) (total ∙ there) (rw (t1, e, there) at g))
+          let h' : q ≡ requestOf (judged (callOf word (letterIn (fields s)) minus sizes)) = rw (p .second) at h in
+          rw (n, w) (h' ∙ ap requestOf (same-call (fields s) minus sizes word (p .known) (total ∙ there) (rw (t1, e, there) at g)))
 
     module _ (t0 : t ≡ false) (n : ℕ) (en : n ≡ length (fields s)) (q : Request) where
-      pub numbers-ill : n ≡ expected → q ≡ empty verdict.Writing → says q ≡ fromCount word (fields s)
+      pub numbers-ill : n ≡ expected → q ≡ empty verdict.Writing → q ≡ requestOf (fromCount word (fields s))
       numbers-ill x eq =
           let c : eqb (length (fields s)) expected ≡ true = eq-eqb (length (fields s)) expected (sym en ∙ x) in
           let w : isWellWritten word (fields s) ≡ false = rw (← e) (sym (rw (c, t0) at (g .written))) in
           let h : hasFields word (fields s) ≡ true = rw (← there) c in
           rw (eq, h, w)
 
-      pub numbers-not : (n ≡ expected → ⊥) → q ≡ empty verdict.Count → says q ≡ fromCount word (fields s)
+      pub numbers-not : (n ≡ expected → ⊥) → q ≡ empty verdict.Count → q ≡ requestOf (fromCount word (fields s))
       numbers-not x eq =
           let h : hasFields word (fields s) ≡ false = rw (← there) (ne-eqb (length (fields s)) expected (λ y. x (en ∙ y))) in
           rw (eq, h)
@@ -147,18 +147,18 @@ module _ (s : List ℕ) (word : Word) (letter : ℕ) (el : letter ≡ letterIn (
     answer : hasLetter (callFrom word (fields s)) ≡ t
     answer = lettered-is word (fields s) ∙ sym (rw el at et)
 
-    pub letter-is : (q : Request) → t ≡ true → says q ≡ fromCount word (fields s) → says q ≡ fromLetter word (fields s)
+    pub letter-is : (q : Request) → t ≡ true → q ≡ requestOf (fromCount word (fields s)) → q ≡ requestOf (fromLetter word (fields s))
     letter-is q t1 h = rw (answer, t1) h
 
-    pub letter-not : (q : Request) → t ≡ false → q ≡ empty verdict.Letter → says q ≡ fromLetter word (fields s)
+    pub letter-not : (q : Request) → t ≡ false → q ≡ empty verdict.Letter → q ≡ requestOf (fromLetter word (fields s))
     letter-not q t0 eq = rw (eq, answer, t0)
 
 -- question 2
 module _ (fs : List (List ℕ)) (word : Word) (t : Bool) (et : t ≡ hasWord word) (q : Request) where
-  pub word-is : t ≡ true → says q ≡ fromLetter word fs → says q ≡ fromWord word fs
+  pub word-is : t ≡ true → q ≡ requestOf (fromLetter word fs) → q ≡ requestOf (fromWord word fs)
   word-is t1 h = rw (← et, t1) h
 
-  pub word-not : t ≡ false → q ≡ empty verdict.Word → says q ≡ fromWord word fs
+  pub word-not : t ≡ false → q ≡ empty verdict.Word → q ≡ requestOf (fromWord word fs)
   word-not t0 eq = rw (eq, ← et, t0)
 
 -- question 1, and the table of all six
@@ -173,17 +173,17 @@ table true true true true false f call = refl
 table true true true true true false call = refl
 table true true true true true true call = refl
 
-read-from : (s : List ℕ) → readOf s ≡ (if isShort s then fromWord (wordOf (field 0 (fields s))) (fields s) else refusedAt 1)
+pub read-from : (s : List ℕ) → readOf s ≡ (if isShort s then fromWord (wordOf (field 0 (fields s))) (fields s) else refusedAt 1)
 unfolding readOf lineQuestions
 read-from s =
     let word = wordOf (field 0 (fields s)) in
     let call = callFrom word (fields s) in
     table (isShort s) (hasWord word) (hasLetter call) (hasFields word (fields s)) (isWellWritten word (fields s)) (isWithinLimits call) call
 
-pub read-is : (s : List ℕ) (word : Word) (q : Request) (f : List ℕ) → length s ≤ 1024 → f ≡ field 0 (fields s) → word ≡ wordOf f → says q ≡ fromWord word (fields s) → says q ≡ readOf s
+pub read-is : (s : List ℕ) (word : Word) (q : Request) (f : List ℕ) → length s ≤ 1024 → f ≡ field 0 (fields s) → word ≡ wordOf f → q ≡ requestOf (fromWord word (fields s)) → q ≡ requestOf (readOf s)
 read-is s word q f le ef ew h =
     let w : word ≡ wordOf (field 0 (fields s)) = rw ef at ew in
     rw (read-from s, le-leb (length s) 1024 le) (rw w at h)
 
-pub read-not : (s : List ℕ) (q : Request) → 1024 < length s → q ≡ empty verdict.Long → says q ≡ readOf s
+pub read-not : (s : List ℕ) (q : Request) → 1024 < length s → q ≡ empty verdict.Long → q ≡ requestOf (readOf s)
 read-not s q lt eq = rw (eq, read-from s, lt-leb (length s) 1024 lt)

@@ -1,10 +1,12 @@
 -- What a line says, and what the reader's answer says.
 -- Assumes nothing: these are definitions.
-use mathlib.Core.List.{List}
+use mathlib.Core.List.{List, _++_}
 use mathlib.Core.Option.{Option, none, some}
-use Prim.Native.Nat.{ℕ, suc}
-use lib.IntN.{pos}
-use lib.ListN.{take, replicate}
+use Prim.Native.Nat.{ℕ, suc, _-_}
+use lib.IntN.{ℤ, pos}
+use lib.Dec.{eqb}
+use lib.ListN.{length, take, replicate}
+use Rattle.model.specs.Basics.{if_then_else_}
 use Rattle.model.specs.Letter.{ages}
 use Rattle.model.specs.Call.{Call, declare, setRate, addPattern, closeYear}
 use Rattle.model.specs.Step.{callOf}
@@ -41,6 +43,86 @@ empty verdict =
       unpaid = replicate 11 0;
       tabular = replicate 11 0;
     }
+
+-- each question's case
+abbrev pub verdictOf : ℕ → Verdict
+verdictOf question =
+    if eqb question 1 then Long else
+    (if eqb question 2 then Word else
+    (if eqb question 3 then Letter else
+    (if eqb question 4 then Count else
+    (if eqb question 5 then Writing else Limits))))
+
+-- a list, and zeros up to n places
+abbrev filled : {A : Type 0} → ℕ → A → List A → List A
+filled n zero list = list ++ replicate (n - length list) zero
+
+-- the requests of a PATT and of a YEAR, by their arrays
+abbrev pub patternRequest : ℕ → ℕ → List ℕ → List ℕ → Request
+patternRequest letter year paid incurred =
+    record {
+      verdict = AddPattern;
+      letter = letter;
+      opening = 0;
+      year = year;
+      months = replicate 60 0;
+      paid = paid;
+      incurred = incurred;
+      payments = replicate 11 (pos 0);
+      unpaid = replicate 11 0;
+      tabular = replicate 11 0;
+    }
+
+abbrev pub yearRequest : ℕ → ℕ → List ℤ → List ℕ → List ℕ → Request
+yearRequest letter year payments unpaid tabular =
+    record {
+      verdict = CloseYear;
+      letter = letter;
+      opening = 0;
+      year = year;
+      months = replicate 60 0;
+      paid = replicate 10 0;
+      incurred = replicate 10 0;
+      payments = payments;
+      unpaid = unpaid;
+      tabular = tabular;
+    }
+
+-- the request of each call: what is not of its kind is 0
+abbrev pub requestFor : Call → Request
+requestFor (declare letter opening) =
+    record {
+      verdict = Declare;
+      letter = letter;
+      opening = opening;
+      year = 0;
+      months = replicate 60 0;
+      paid = replicate 10 0;
+      incurred = replicate 10 0;
+      payments = replicate 11 (pos 0);
+      unpaid = replicate 11 0;
+      tabular = replicate 11 0;
+    }
+requestFor (setRate year months) =
+    record {
+      verdict = SetRate;
+      letter = 0;
+      opening = 0;
+      year = year;
+      months = months;
+      paid = replicate 10 0;
+      incurred = replicate 10 0;
+      payments = replicate 11 (pos 0);
+      unpaid = replicate 11 0;
+      tabular = replicate 11 0;
+    }
+requestFor (addPattern letter year paid incurred) = patternRequest letter year (filled 10 0 paid) (filled 10 0 incurred)
+requestFor (closeYear letter year paid unpaid tabular) = yearRequest letter year (filled 11 (pos 0) paid) (filled 11 0 unpaid) (filled 11 0 tabular)
+
+-- the request that says it, whole
+abbrev pub requestOf : Read → Request
+requestOf (refusedAt question) = empty (verdictOf question)
+requestOf (asks call) = requestFor call
 
 -- the calls of a PATT and of a YEAR: of a line's ages, ten or two, and one row more
 abbrev pub patternCall : Request → Call

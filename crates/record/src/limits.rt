@@ -20,7 +20,7 @@ ghost use Rattle.model.specs.Basics.{all};
 ghost use Rattle.model.specs.Kind.{isAmount};
 ghost use Rattle.model.specs.Record.{LINE, RATE, PATT, YEAR};
 ghost use Rattle.form.specs.Word.{named};
-ghost use Rattle.record.specs.Request.{says};
+ghost use Rattle.record.specs.Request.{requestOf};
 ghost use Rattle.record.specs.Limits.{judged, callOf, Low, Judgeable};
 
 // "Other money is 0 to 10,000,000,000": that of two columns.
@@ -35,7 +35,7 @@ pub fn are_amounts(a: &[u64], b: &[u64]) -> bool
 
 // "LINE, letter, opening"
 pub fn declare(letter: u8, sizes: &[u64; 62]) -> Request
-    ensures { λ r. ⌜ says r ≡ judged (callOf LINE letter [] (now (sizes .entry))) ⌝ }
+    ensures { λ r. ⌜ r ≡ requestOf (judged (callOf LINE letter [] (now (sizes .entry)))) ⌝ }
 {
     let opening = sizes[2];
     if is_opening(opening) {
@@ -57,7 +57,7 @@ pub fn declare(letter: u8, sizes: &[u64; 62]) -> Request
 
 // "RATE, year, sixty rates"
 pub fn set_rate(sizes: &[u64; 62]) -> Request
-    ensures { λ r. ⌜ says r ≡ judged (callOf RATE 0 [] (now (sizes .entry))) ⌝ }
+    ensures { λ r. ⌜ r ≡ requestOf (judged (callOf RATE 0 [] (now (sizes .entry)))) ⌝ }
 {
     let year = sizes[1];
     if is_year(year) {
@@ -83,7 +83,7 @@ pub fn set_rate(sizes: &[u64; 62]) -> Request
 
 // "PATT, letter, year, then paid and incurred an age"
 pub fn add_pattern(letter: u8, sizes: &[u64; 62]) -> Request
-    ensures { λ r. ⌜ says r ≡ judged (callOf PATT letter [] (now (sizes .entry))) ⌝ }
+    ensures { λ r. ⌜ r ≡ requestOf (judged (callOf PATT letter [] (now (sizes .entry)))) ⌝ }
 {
     let year = sizes[2];
     if is_year(year) {
@@ -112,7 +112,7 @@ pub fn add_pattern(letter: u8, sizes: &[u64; 62]) -> Request
 // "YEAR, letter, year, then paid, unpaid, tabular for each age, prior row last"
 pub fn close_year(letter: u8, minus: &[bool; 62], sizes: &[u64; 62]) -> Request
     requires { ⌜ Low letter (now sizes) ⌝ }
-    ensures { λ r. ⌜ says r ≡ judged (callOf YEAR letter (now (minus .entry)) (now (sizes .entry))) ⌝ }
+    ensures { λ r. ⌜ r ≡ requestOf (judged (callOf YEAR letter (now (minus .entry)) (now (sizes .entry)))) ⌝ }
 {
     let year = sizes[2];
     if is_year(year) {
@@ -145,7 +145,7 @@ pub fn close_year(letter: u8, minus: &[bool; 62], sizes: &[u64; 62]) -> Request
 // Question 6, and the call.
 pub fn judge<'a>(word: Word, letter: u8, minus: &'a [bool; 62], sizes: &'a [u64; 62]) -> Request
     requires { ⌜ Judgeable (named word) letter (now sizes) ⌝ }
-    ensures { λ r. ⌜ says r ≡ judged (callOf (named word) letter (now (minus .entry)) (now (sizes .entry))) ⌝ }
+    ensures { λ r. ⌜ r ≡ requestOf (judged (callOf (named word) letter (now (minus .entry)) (now (sizes .entry)))) ⌝ }
 {
     match word {
         Word::Line => declare(letter, sizes),

@@ -18,13 +18,13 @@ ghost use mathlib.Core.Bool.{true};
 ghost use Rattle.model.specs.Field.{fields};
 ghost use Rattle.model.specs.Question.{hasWord};
 ghost use Rattle.form.specs.Word.{named};
-ghost use Rattle.record.specs.Request.{says, readOf};
+ghost use Rattle.record.specs.Request.{requestOf, readOf};
 ghost use Rattle.record.specs.Read.{fromWord, fromLetter, fromCount, Lettered};
 
 // "4. Is the count of fields right?", "5. Is every number well written?", and 6.
 fn ask_numbers(line: &[u8], word: Word, letter: u8) -> Request
     requires { ⌜ Lettered (now line) (named word) letter ⌝ }
-    ensures { λ r. ⌜ says r ≡ fromCount (named word) (fields (now (line .entry))) ⌝ }
+    ensures { λ r. ⌜ r ≡ requestOf (fromCount (named word) (fields (now (line .entry)))) ⌝ }
 {
     let expected = field_count(word, letter);
     let place = first_number(word);
@@ -42,7 +42,7 @@ fn ask_numbers(line: &[u8], word: Word, letter: u8) -> Request
 // "3. But for RATE: is the second field a covered letter? (no second field is a no)", and on.
 fn ask_letter(line: &[u8], word: Word) -> Request
     requires { ⌜ hasWord (named word) ≡ true ⌝ }
-    ensures { λ r. ⌜ says r ≡ fromLetter (named word) (fields (now (line .entry))) ⌝ }
+    ensures { λ r. ⌜ r ≡ requestOf (fromLetter (named word) (fields (now (line .entry)))) ⌝ }
 {
     let letter = letter_of(line);
     if is_lettered(word, letter) {
@@ -53,7 +53,7 @@ fn ask_letter(line: &[u8], word: Word) -> Request
 
 // "2. Is the first field, byte for byte, one of the four words?", and on.
 fn ask_word(line: &[u8], word: Word) -> Request
-    ensures { λ r. ⌜ says r ≡ fromWord (named word) (fields (now (line .entry))) ⌝ }
+    ensures { λ r. ⌜ r ≡ requestOf (fromWord (named word) (fields (now (line .entry)))) ⌝ }
 {
     if is_word(word) {
         return ask_letter(line, word);
@@ -63,7 +63,7 @@ fn ask_word(line: &[u8], word: Word) -> Request
 
 // "1. Has the line at most 1,024 bytes?", and on.
 pub fn read(line: &[u8]) -> Request
-    ensures { λ r. ⌜ says r ≡ readOf (now (line .entry)) ⌝ }
+    ensures { λ r. ⌜ r ≡ requestOf (readOf (now (line .entry))) ⌝ }
 {
     if line.len() <= 1024 {
         let word = word_of(first(line));

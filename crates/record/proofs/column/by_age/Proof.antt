@@ -1,5 +1,4 @@
 -- `record::column::by_age` meets its contract. Assumes nothing.
-use mathlib.Core.Path.{refl}
 use Prim.Native.Nat.{_-_}
 use native.Mathlib.Omega.{arith}
 use Rattle.record.specs.Column.{sizeAt}
@@ -8,13 +7,13 @@ use Rattle.record.proofs.column.by_age.Statement.{statement}
 use Rattle.record.proofs.column.by_age.Tie as tie
 
 abbrev Inv-loop : tie.InvT-loop
-Inv-loop sizes place n list₀ i₀ list i = Taking (sizeAt sizes) 2 place n 10 list i
+Inv-loop sizes place n list₀ i₀ list i = Taking (sizeAt sizes) 0 2 place n 10 list i
 
 abbrev μ-loop : tie.MeasureT-loop
 μ-loop sizes place n list₀ i₀ list i = n - i
 
 loop-holds : tie.Need-loop-holds Inv-loop μ-loop
-loop-holds c = take-start _ _ _ _ _ _ (c .pre .1) refl
+loop-holds c = take-start _ _ _ _ _ _ (c .pre .1)
 
 mul-at : tie.Need-mul-at Inv-loop μ-loop
 mul-at c = omega arith

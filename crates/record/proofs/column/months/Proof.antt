@@ -1,5 +1,4 @@
 -- `record::column::months` meets its contract. Assumes nothing.
-use mathlib.Core.Path.{refl}
 use Prim.Native.Nat.{_-_}
 use native.Mathlib.Omega.{arith}
 use Rattle.record.specs.Column.{sizeAt}
@@ -8,13 +7,13 @@ use Rattle.record.proofs.column.months.Statement.{statement}
 use Rattle.record.proofs.column.months.Tie as tie
 
 abbrev Inv-loop : tie.InvT-loop
-Inv-loop sizes list₀ i₀ list i = Taking (sizeAt sizes) 1 2 60 60 list i
+Inv-loop sizes list₀ i₀ list i = Taking (sizeAt sizes) 0 1 2 60 60 list i
 
 abbrev μ-loop : tie.MeasureT-loop
 μ-loop sizes list₀ i₀ list i = 60 - i
 
 loop-holds : tie.Need-loop-holds Inv-loop μ-loop
-loop-holds c = take-start _ _ _ _ _ _ (omega arith) refl
+loop-holds c = take-start _ _ _ _ _ _ (omega arith)
 
 add-at : tie.Need-add-at Inv-loop μ-loop
 add-at c = omega arith

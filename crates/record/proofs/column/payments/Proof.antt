@@ -1,5 +1,4 @@
 -- `record::column::payments` meets its contract. Assumes nothing.
-use mathlib.Core.Path.{refl}
 use Prim.Native.Nat.{_-_}
 use native.Mathlib.Omega.{arith}
 use Rattle.record.proofs.Columns.{Paying, pay-start, pay-asks, pay-on, pay-end}
@@ -13,7 +12,7 @@ abbrev μ-loop : tie.MeasureT-loop
 μ-loop minus sizes n list₀ i₀ list i = n - i
 
 loop-holds : tie.Need-loop-holds Inv-loop μ-loop
-loop-holds c = pay-start _ _ _ _ (c .pre) refl
+loop-holds c = pay-start _ _ _ (c .pre)
 
 mul-at : tie.Need-mul-at Inv-loop μ-loop
 mul-at c = omega arith
