@@ -17,9 +17,9 @@ use Rattle.answer.specs.Text.{PutsWithRoom}
 use Rattle.pieces.specs.declared.answer_line.Answered.{Answered}
 use Rattle.pieces.specs.Progress.{Progress, ended}
 use Rattle.pieces.specs.declared.line.OpenLine.{OpenLine}
-use Rattle.pieces.specs.Feed.{bytesOf, Answers}
+use Rattle.pieces.specs.Feed.{bytesOf, openLine, Answers}
 use Rattle.pieces.proofs.Cut.{ended-cut}
-use Rattle.pieces.proofs.Joining.{same-front}
+use Rattle.pieces.proofs.Joining.{same-front, open-bytes}
 
 pub answers : (book : Book) (slots line out : List ℕ) (at : ℕ) (outcome : Outcome) (laterSlots laterOut : List ℕ) (next : ℕ)
     → Does (view book slots) (asBytes line) slots outcome laterSlots → PutsWithRoom out at (text (answered (outcome .answer) (outcome .published))) laterOut next
@@ -52,8 +52,8 @@ not-begun book slots [] rest out at r laterSlots laterOut e a = a
 not-begun book slots (b ∷ begun) rest out at r laterSlots laterOut e a = absurd (omega arith)
 
 -- a line of two parts
-pub answers-joined : (book : Book) (slots begun rest : List ℕ) (line : OpenLine) → bytesOf line ≡ take 1025 (begun ++ rest) → (n : ℕ) → n ≡ length (bytesOf line)
+pub answers-joined : (book : Book) (slots begun rest : List ℕ) (line : OpenLine) → line ≡ openLine (take 1025 (begun ++ rest)) → (n : ℕ) → n ≡ length (bytesOf line)
     → (out : List ℕ) (at : ℕ) (r : Answered) (laterSlots laterOut : List ℕ) → Answers book slots (take n (line .bytes)) out at r laterSlots laterOut → Answers book slots (begun ++ rest) out at r laterSlots laterOut
 answers-joined book slots begun rest line joined n e out at r laterSlots laterOut a =
-    let whole : take n (line .bytes) ≡ take 1025 (begun ++ rest) = rw e (same-front (line .bytes) (line .count)) ∙ joined in
+    let whole : take n (line .bytes) ≡ take 1025 (begun ++ rest) = rw e (same-front (line .bytes) (line .count)) ∙ open-bytes line (take 1025 (begun ++ rest)) joined in
     answers-cut book slots (begun ++ rest) out at r laterSlots laterOut (rw (← whole) a)

@@ -1,12 +1,12 @@
 -- After the last line that ends in a piece; before the first piece; and after the last one.
 -- Assumes nothing.
-use mathlib.Core.List.{List, [], _∷_, _++_}
+use mathlib.Core.List.{List, [], _∷_, _++_, append-nil}
 use mathlib.Core.Path.{_≡_, refl, sym, ap, subst, _∙_}
 use mathlib.Core.Bool.{Bool, true, false}
 use Prim.Native.Nat.{ℕ, _+_, _-_, _≤_, _<_}
 use native.Mathlib.Omega.{arith}
 use borrow.Author.Tests.{le-leb, lt-leb, leb-false}
-use lib.ListN.{length, take, drop, length-take, length-drop, take-append-drop}
+use lib.ListN.{length, take, drop, length-take, length-drop, take-append-drop, replicate}
 use lib.Seq.{take-length, take-take, take-all, drop-length}
 use Rattle.model.proofs.Lists.{true≢false}
 use Rattle.state.specs.declared.book.Book.{Book}
@@ -20,7 +20,7 @@ use Rattle.pieces.specs.declared.answer_line.Answered.{Answered}
 use Rattle.pieces.specs.declared.answer_lines.Lines.{Lines}
 use Rattle.pieces.specs.declared.feed.Run.{Run}
 use Rattle.pieces.specs.Progress.{Progress, ended, lengthened, takingAll, takenOf, closed}
-use Rattle.pieces.specs.Feed.{bytesOf, before, progressOf, IsStart, Answers, FedTo, AnswersLines, Feeds, Closes}
+use Rattle.pieces.specs.Feed.{bytesOf, openLine, before, progressOf, IsStart, Answers, FedTo, AnswersLines, Feeds, Closes}
 use Rattle.pieces.proofs.LineFound.{line-taken, line-counted}
 use Rattle.pieces.proofs.Joining.{same-front, front-length}
 use Rattle.pieces.proofs.Feeding.{put-in, room-is, short}
@@ -73,15 +73,16 @@ module _ (run : Run) (slots piece out : List ℕ) (n : ℕ) (e : n ≡ length (b
       let less : r .begun ≤ n = omega (arith, a .fed .few, length-take n (run .line .bytes)) in
       sym (take-take (r .begun) n (run .line .bytes) less) ∙ a .fed .line
 
-  pub feeds-full : (t : Bool) → t ≡ hasRoom laterOut (r .put) → t ≡ false
-      → Feeds run slots piece out (record { run = record { book = r .book; line = record { bytes = run .line .bytes; count = r .begun } }; taken = r .at; put = r .put }) laterSlots laterOut
-  feeds-full t told no-room =
+  pub feeds-full : (t : Bool) → t ≡ hasRoom laterOut (r .put) → t ≡ false → (kept : OpenLine) → kept ≡ openLine (take 1025 (bytes ++ take 0 piece))
+      → Feeds run slots piece out (record { run = record { book = r .book; line = kept }; taken = r .at; put = r .put }) laterSlots laterOut
+  feeds-full t told no-room kept l =
       let full : hasRoom laterOut (r .put) ≡ false = sym told ∙ no-room in
+      let all-kept : length bytes ≤ 1025 = rw (length-take (r .begun) (run .line .bytes)) (omega (arith, a .fed .few, a .fed .kept)) in
       let less : length out < length (s .written) + 320 = omega (arith, leb-false (r .put + 320) (length laterOut) full, a .fed .reached .puts .after-it, a .fed .same) in
       record {
         taken = rw (← line) (sym (a .fed .left ∙ rw (none-taken (length out) s rest less) (omega arith)));
         reached = rw (← line) (a .fed .reached);
-        unended = rw (← line) still-open;
+        unended = l ∙ rw (← line, append-nil bytes, take-all 1025 bytes all-kept, still-open);
       }
 
   module _ (t : Bool) (told : t ≡ hasRoom laterOut (r .put)) (yes : t ≡ true) where
@@ -105,7 +106,7 @@ module _ (run : Run) (slots piece out : List ℕ) (n : ℕ) (e : n ≡ length (b
         let split : piece ≡ take (r .at) piece ++ rest = sym (take-append-drop (r .at) piece) in
         rw (take-length piece) (ap (takingAll start) split ∙ pieces-join start (take (r .at) piece) rest ∙ rest-taken)
 
-    pub feeds-room : (longer : OpenLine) → bytesOf longer ≡ take 1025 (bytes ++ take (length piece - r .at) rest)
+    pub feeds-room : (longer : OpenLine) → longer ≡ openLine (take 1025 (bytes ++ take (length piece - r .at) rest))
         → Feeds run slots piece out (record { run = record { book = r .book; line = longer }; taken = length piece; put = r .put }) laterSlots laterOut
     unfolding lengthened takenOf
     feeds-room longer l =
@@ -133,8 +134,8 @@ closed-line : (s : Progress) → (length (s .line) ≡ 0 → ⊥) → closed s �
 closed-line s nz = closed-by s (s .line) refl nz
 
 -- before the first piece
-pub starts : (book : Book) (bytes : List ℕ) → IsEmpty book → IsStart (record { book = book; line = record { bytes = bytes; count = 0 } })
-starts book bytes e slots = rw (e slots)
+pub starts : (book : Book) → IsEmpty book → IsStart (record { book = book; line = record { bytes = replicate 1025 0; count = 0 } })
+starts book e = (refl, λ slots. rw (e slots))
 
 -- the end of input
 module _ (run : Run) (slots out : List ℕ) (begun : ℕ) (n : begun ≡ length (bytesOf (run .line))) where

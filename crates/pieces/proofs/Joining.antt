@@ -12,7 +12,7 @@ use Rattle.answer.specs.Put.{placed, Puts}
 use Rattle.answer.proofs.Copying.{Copying, copy-start, copy-on, copy-end}
 use Rattle.answer.proofs.Joins.{joined}
 use Rattle.pieces.specs.declared.line.OpenLine.{OpenLine}
-use Rattle.pieces.specs.Feed.{bytesOf}
+use Rattle.pieces.specs.Feed.{bytesOf, openLine}
 
 -- as much of a text as has room: the bytes before place i are copied
 pub record Filling (buffer : List ℕ) (at : ℕ) (text : List ℕ) (n : ℕ) (later : List ℕ) (i : ℕ) : Type 0 where
@@ -64,18 +64,29 @@ take-parts (suc n) (x ∷ xs) ys =
     let less : suc n - suc (length (take n xs)) ≡ n - length (take n xs) = omega arith in
     rw (take-parts n xs ys, less)
 
+drop-same : (z n m : ℕ) → drop n (replicate m z) ≡ replicate (m - n) z
+drop-same z zero m = let e : m - 0 ≡ m = omega arith in rw e
+drop-same z (suc n) zero = let e : 0 - suc n ≡ 0 = omega arith in rw e
+drop-same z (suc n) (suc m) = let e : suc m - suc n ≡ m - n = omega arith in rw e (drop-same z n m)
+
 pub two-parts : (begun more : List ℕ) (middle : List ℕ) (first : ℕ) → Puts zeros 0 (take (length zeros - 0) begun) middle first → length middle ≡ 1025
-    → (bytes : List ℕ) (count : ℕ) → Puts middle first (take (length middle - first) more) bytes count → take count bytes ≡ take 1025 (begun ++ more)
+    → (bytes : List ℕ) (count : ℕ) → Puts middle first (take (length middle - first) more) bytes count → record { bytes = bytes; count = count } ≡ openLine (take 1025 (begun ++ more))
 unfolding placed
 two-parts begun more middle first p same bytes count q =
     let whole : length zeros - 0 ≡ 1025 = omega (arith, all-zeros) in
     let start : List ℕ = take (length zeros - 0) begun in
     let rest : List ℕ = take (length middle - first) more in
     let both = joined zeros 0 start (omega arith) rest middle first p bytes count q in
-    let text : bytes ≡ (start ++ rest) ++ drop (0 + length (start ++ rest)) zeros = both .whole in
-    let seam : take count bytes ≡ start ++ rest = rw text (take-at (start ++ rest) _ count (sym (both .after-it ∙ omega arith))) in
     let left : length middle - first ≡ 1025 - length (take 1025 begun) = omega (arith, p .after-it, same, whole) in
-    seam ∙ rw (whole, left) (sym (take-parts 1025 begun more))
+    let parts : start ++ rest ≡ take 1025 (begun ++ more) = rw (whole, left) (sym (take-parts 1025 begun more)) in
+    let none : 0 + length (start ++ rest) ≡ length (start ++ rest) = omega arith in
+    let text : bytes ≡ (start ++ rest) ++ replicate (1025 - length (start ++ rest)) 0 = both .whole ∙ rw (none, drop-same 0 (length (start ++ rest)) 1025) in
+    let counted : count ≡ length (start ++ rest) = both .after-it ∙ none in
+    rw (text, counted, parts)
+
+-- the bytes of an open line are the line so far
+pub open-bytes : (line : OpenLine) (bytes : List ℕ) → line ≡ openLine bytes → bytesOf line ≡ bytes
+open-bytes line bytes e = rw e (take-at bytes (replicate (1025 - length bytes) 0) (length bytes) refl)
 
 -- how many bytes a line so far has
 pub count-is : (line : OpenLine) (n : ℕ) → n ≡ min (line .count) 1025 → length (line .bytes) ≡ 1025 → n ≡ length (bytesOf line)

@@ -1,10 +1,10 @@
 -- What the run's functions answer, by the progress of a run.
 -- Assumes nothing: these are definitions.
 use mathlib.Core.Bool.{true}
-use mathlib.Core.List.{List, []}
+use mathlib.Core.List.{List, [], _++_}
 use mathlib.Core.Path.{_≡_}
-use Prim.Native.Nat.{ℕ, _+_, _≤_}
-use lib.ListN.{length, take, drop}
+use Prim.Native.Nat.{ℕ, _+_, _-_, _≤_}
+use lib.ListN.{length, take, drop, replicate}
 use Rattle.model.specs.Answer.{text}
 use Rattle.model.specs.Question.{firstNo}
 use Rattle.model.specs.Step.{asBytes, asked, questions, step}
@@ -21,8 +21,12 @@ use Rattle.pieces.specs.declared.feed.Run.{Run}
 use Rattle.pieces.specs.declared.feed.Fed.{Fed}
 use Rattle.pieces.specs.Progress.{Progress, start, closed, takingAll, takenOf}
 
+-- the line so far, and the open line that it is: zeros after it
 abbrev pub bytesOf : OpenLine → List ℕ
 bytesOf line = take (line .count) (line .bytes)
+
+abbrev pub openLine : List ℕ → OpenLine
+openLine bytes = record { bytes = bytes ++ replicate (1025 - length bytes) 0; count = length bytes }
 
 -- how far a run has come before a piece; what was written is out of its hands
 abbrev pub before : Book → List ℕ → List ℕ → Progress
@@ -32,7 +36,7 @@ abbrev pub progressOf : Run → List ℕ → Progress
 progressOf run slots = before (run .book) slots (bytesOf (run .line))
 
 abbrev pub IsStart : Run → Type 0
-IsStart run = (slots : List ℕ) → progressOf run slots ≡ start slots
+IsStart run = (run .line ≡ openLine []) × ((slots : List ℕ) → progressOf run slots ≡ start slots)
 
 -- a line is a record: the later book, the lent list, and the answer's text where the longest has room
 pub record Answers (book : Book) (slots line out : List ℕ) (at : ℕ) (r : Answered) (laterSlots laterOut : List ℕ) : Type 0 where
@@ -65,7 +69,7 @@ pub record AnswersLines (book : Book) (slots begun piece out : List ℕ) (r : Li
 pub record Feeds (run : Run) (slots piece out : List ℕ) (r : Fed) (laterSlots laterOut : List ℕ) : Type 0 where
   pub taken : r .taken ≡ takenOf (length out) (progressOf run slots) piece
   pub reached : Reaches (r .run .book) laterSlots out (r .put) (takingAll (progressOf run slots) (take (r .taken) piece)) laterOut
-  pub unended : bytesOf (r .run .line) ≡ takingAll (progressOf run slots) (take (r .taken) piece) .line
+  pub unended : r .run .line ≡ openLine (takingAll (progressOf run slots) (take (r .taken) piece) .line)
 
 -- the end of input
 pub record Closes (run : Run) (slots out : List ℕ) (r : Answered) (laterSlots laterOut : List ℕ) : Type 0 where

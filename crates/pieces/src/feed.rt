@@ -55,10 +55,7 @@ pub fn feed(run: Run, patterns: &mut Patterns, piece: &[u8], out: &mut [u8]) -> 
         let run = Run { book, line: longer };
         return Fed { run, taken, put };
     }
-    let rest = OpenLine {
-        bytes,
-        count: begun,
-    };
+    let rest = join(&bytes[..begun], &piece[..0]);
     let run = Run { book, line: rest };
     Fed {
         run,

@@ -4,12 +4,12 @@ ghost use mathlib.Core.Path.{_≡_};
 ghost use Prim.Native.Nat.{_-_, _≤_, min};
 ghost use lib.ListN.{length, take};
 ghost use Rattle.answer.specs.Put.{Puts};
-ghost use Rattle.pieces.specs.Feed.{bytesOf};
+ghost use Rattle.pieces.specs.Feed.{bytesOf, openLine};
 
 // A line longer than 1,024 bytes is refused by its length alone, so no more than 1,025 of its bytes are kept.
 pub const KEPT: usize = 1025;
 
-// The first `count` of `bytes`.
+// The first `count` of `bytes`. The functions here leave zeros after them.
 pub struct OpenLine {
     pub bytes: [u8; 1025],
     pub count: usize,
@@ -17,7 +17,7 @@ pub struct OpenLine {
 
 // The line with more bytes: as many of them as are kept.
 pub fn join(begun: &[u8], more: &[u8]) -> OpenLine
-    ensures { λ r. ⌜ bytesOf r ≡ take 1025 (now (begun .entry) ++ now (more .entry)) ⌝ }
+    ensures { λ r. ⌜ r ≡ openLine (take 1025 (now (begun .entry) ++ now (more .entry))) ⌝ }
 {
     let mut bytes = [0u8; 1025];
     let first = put_some(&mut bytes, 0, begun);

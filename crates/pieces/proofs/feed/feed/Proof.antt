@@ -50,6 +50,18 @@ same-length c = search needs
 returns : tie.Need-returns
 returns c = search feeds-room
 
+array-share-prefix-bytes-3 : tie.Need-array-share-prefix-bytes-3
+array-share-prefix-bytes-3 c = search begun-fits
+
+slice-aggregate-join-2 : tie.Need-slice-aggregate-join-2
+slice-aggregate-join-2 c = search begun-exact
+
+slice-aggregate-join-3 : tie.Need-slice-aggregate-join-3
+slice-aggregate-join-3 c = search needs
+
+join-requires-2 : tie.Need-join-requires-2
+join-requires-2 c κs = search needs
+
 same-length-2 : tie.Need-same-length-2
 same-length-2 c = search needs
 
@@ -73,5 +85,9 @@ feed-spec =
     join-requires
     same-length
     returns
+    array-share-prefix-bytes-3
+    slice-aggregate-join-2
+    slice-aggregate-join-3
+    join-requires-2
     same-length-2
     returns-2)
