@@ -3,4 +3,5 @@ mod column;
 mod gather;
 mod limits;
 pub mod read;
+mod refusal;
 pub mod request;

@@ -1,9 +1,9 @@
 // "Questions put to a record, in this order": 1 to 6, each function with the rest of them.
 use crate::gather::gather;
 use crate::limits::judge;
+use crate::refusal::refused;
 use crate::request::Request;
 use crate::request::Verdict;
-use crate::request::refused;
 use field::field::count;
 use field::field::first;
 use form::form::field_count;

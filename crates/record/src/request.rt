@@ -1,6 +1,4 @@
 // What a line asks of the book: a call of one of the four kinds, or the first of questions 1 to 6 that is answered no.
-ghost use mathlib.Core.Path.{_≡_};
-ghost use Rattle.record.specs.Request.{empty};
 
 // The question that is answered no, by what it asks; or the kind of the call.
 pub enum Verdict {
@@ -28,22 +26,4 @@ pub struct Request {
     pub payments: [i64; 11],
     pub unpaid: [u64; 11],
     pub tabular: [u64; 11],
-}
-
-// A verdict and nothing else.
-pub fn refused(verdict: Verdict) -> Request
-    ensures { λ r. ⌜ r ≡ empty verdict ⌝ }
-{
-    Request {
-        verdict,
-        letter: 0,
-        opening: 0,
-        year: 0,
-        months: [0; 60],
-        paid: [0; 10],
-        incurred: [0; 10],
-        payments: [0; 11],
-        unpaid: [0; 11],
-        tabular: [0; 11],
-    }
 }
