@@ -11,7 +11,7 @@ use lib.Seq.{length-take-le, take-at}
 use Rattle.model.specs.Basics.{all}
 use Rattle.model.specs.Kind.{isRate, isYear, isOpening, isAmount, isPaid}
 use Rattle.model.specs.Letter.{ages}
-use Rattle.model.specs.Call.{Call, declare, setRate, addPattern, closeYear}
+use Rattle.model.specs.Call.{Call, declare, setRate}
 use Rattle.model.specs.Record as model
 use Rattle.model.specs.Question.{isWithinLimits}
 use Rattle.model.proofs.Lists.{and-left, and-right}

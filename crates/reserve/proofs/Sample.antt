@@ -1,11 +1,11 @@
--- "TAX J 2015 50 0 43 93" and "TAX J 2016 40 43 8 5": the year ends of document 01's run, and P11 and P12 as rows.
+-- "TAX J 2015 50 0 43 93" and "TAX J 2016 40 43 8 5": the year ends of document 01's run; a loss below zero, and both refusals.
 -- Assumes nothing.
 use mathlib.Core.List.{List, [], _∷_}
 use mathlib.Core.Path.{_≡_, refl}
 use Prim.Native.Nat.{ℕ}
 use lib.IntN.{pos, negsuc}
 use Rattle.model.specs.Letter.{tenYear, ages}
-use Rattle.model.specs.Row.{discounted, stated}
+use Rattle.model.specs.Row.{discounted}
 use Rattle.model.specs.YearEnd.{paidTotal}
 use Rattle.reserve.specs.YearEnd.{refused, yearEnd}
 use Rattle.reserve.specs.declared.year_end.Verdict.the-variants.{Fine, Length, Limits}
@@ -34,11 +34,3 @@ short = refl
 pub past-limit : yearEnd 74 (pos 0 ∷ pos 0 ∷ negsuc 10000000000 ∷ []) (0 ∷ 0 ∷ 0 ∷ []) (0 ∷ 0 ∷ 0 ∷ []) kept 0 ≡ refused Limits
 unfolding yearEnd ages tenYear
 past-limit = refl
-
-pub capped-row : discounted (stated 30 10) 900000 ≡ 30
-unfolding discounted
-capped-row = refl
-
-pub discounted-row : discounted (stated 10000 1000) 850000 ≡ 9350
-unfolding discounted
-discounted-row = refl

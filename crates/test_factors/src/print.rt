@@ -1,5 +1,4 @@
 // A line of output: the rate, the verdict's question (0: fine), the kept factors and the composite, parted by spaces.
-use factor::pattern::Pattern;
 use kinds::rate::Rate;
 use libc::STDOUT_FILENO;
 use payments::schedule::Verdict;
