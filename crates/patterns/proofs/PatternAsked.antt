@@ -20,7 +20,10 @@ use Rattle.kinds.specs.Rate.{rateNumber}
 use Rattle.payments.specs.declared.schedule.Verdict.the-variants as verdict
 use Rattle.factor.specs.declared.pattern.Pattern.{Pattern}
 use Rattle.factor.specs.Pattern as factor
-use Rattle.factor.specs.Pattern.{keptOf, patternOf}
+use Rattle.payments.specs.declared.schedule.Schedule.{Schedule}
+use Rattle.payments.specs.Schedule as payments
+use Rattle.payments.specs.Schedule.{inPlaces}
+use Rattle.factor.specs.Pattern.{keptOf, patternBy, patternOf}
 use Rattle.state.specs.declared.book.Book.{Book}
 use Rattle.state.specs.declared.book.Line.{Line}
 use Rattle.ledger.specs.declared.answer.Refusal.{Refusal}
@@ -88,6 +91,12 @@ judged-refused true true p f e = absurd (true≢false (rw f at e))
 judged-refused true false p f e = refl
 judged-refused false b p f e = refl
 
+-- the schedule's verdict is that of the two questions
+by-judged : (a b : Bool) (s : Schedule) (p : Pattern) → s .verdict ≡ verdict.Fine → patternBy ((if a then (if b then s else payments.refused verdict.Falls) else payments.refused verdict.Incurred) .verdict) p ≡ judged a b p
+by-judged true true s p e = rw e
+by-judged true false s p e = refl
+by-judged false b s p e = refl
+
 amounts : (y a b : Bool) → (y && a && b) ≡ true → (a && b) ≡ true
 amounts true a b e = e
 amounts false a b e = let z : _≡_ {A = ℕ} 0 1 = cc in absurd (omega arith)
@@ -100,7 +109,9 @@ module _ (book : Book) (line : Line) (letter year rate : ℕ) (paid incurred : L
   fine = keptOf letter rate (schedule letter (agesOf paid incurred))
 
   pattern-is : pattern ≡ judged (hasIncurred asks) (climbs asks) fine
-  pattern-is = ep ∙ rw (pre .sound .lengths, amounts (isYear year) (all isAmount paid) (all isAmount incurred) (pre .sound .limits))
+  pattern-is =
+      ep ∙ rw (pre .sound .lengths, amounts (isYear year) (all isAmount paid) (all isAmount incurred) (pre .sound .limits))
+      (by-judged (hasIncurred asks) (climbs asks) (record { verdict = verdict.Fine; pay = inPlaces letter (schedule letter (agesOf paid incurred)) }) fine refl)
 
   first-of-two : (slots : List ℕ) → firstNo (bookQuestions (view book slots) asks) ≡ (if hasIncurred asks then (if climbs asks then none else some 12) else some 11)
   first-of-two slots = first-is book letter year paid incurred (pre .sound) line (pre .here) slots ∙ rw (pre .turn, pre .rated, pre .declared)

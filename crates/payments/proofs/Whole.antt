@@ -60,6 +60,9 @@ module _ (letter : ℕ) (paid incurred : List ℕ) (fine : scheduleOf letter pai
   passed =
       fine-passes (hasLengths (addPattern letter 0 paid incurred)) (all isAmount paid && all isAmount incurred) (hasIncurred (addPattern letter 0 paid incurred)) (climbs (addPattern letter 0 paid incurred)) (record { verdict = Fine; pay = inPlaces letter (schedule letter given) }) fine
 
+  pub fine-lengths : hasLengths (addPattern letter 0 paid incurred) ≡ true
+  fine-lengths = passed .lengths
+
   in-places : scheduleOf letter paid incurred .pay ≡ inPlaces letter (schedule letter given)
   in-places = rw (passed .lengths, passed .limits, passed .incurred, passed .climbing)
 

@@ -1,4 +1,4 @@
--- What `schedule` answers.
+-- What `schedule_of` answers.
 -- Assumes nothing: these are definitions.
 use mathlib.Core.Path.{_≡_}
 use mathlib.Core.Bool.{true, _&&_}
