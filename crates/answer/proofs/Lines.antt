@@ -17,8 +17,9 @@ use Rattle.model.specs.Answer.{declared, rated, fact, tax, refusal, text, doneT
 use Rattle.model.specs.Answer as model
 use Rattle.ledger.specs.declared.answer.Answer.{Answer}
 use Rattle.ledger.specs.declared.answer.Answer.the-variants as answer
-use Rattle.ledger.specs.declared.answer.Refusal.{Refusal}
-use Rattle.ledger.specs.Answer.{numberOf, answered}
+use Rattle.refusal.specs.declared.Refusal.{Refusal}
+use Rattle.ledger.specs.Answer.{answered}
+use Rattle.refusal.specs.Number.{numberOf}
 use Rattle.answer.specs.Put.{tabbed, Room, Puts, PutsShort}
 use Rattle.answer.specs.Text.{hasRoom, PutsWithRoom}
 use Rattle.answer.proofs.Joins.{joined, next-inside, fact-line}

@@ -5,13 +5,14 @@ use crate::put::put_number;
 use crate::put::put_numbers;
 use crate::put::put_signed;
 use ledger::answer::Answer;
-use ledger::answer::Refusal;
 use letters::letter::ages;
+use refusal::Refusal;
 ghost use mathlib.Core.Path.{_≡_};
 ghost use lib.ListN.{take, getD};
 ghost use Rattle.model.specs.Letter.{ages};
 ghost use Rattle.model.specs.Answer.{declared, rated, fact, tax, refusal, text, doneText};
-ghost use Rattle.ledger.specs.Answer.{numberOf, answered};
+ghost use Rattle.ledger.specs.Answer.{answered};
+ghost use Rattle.refusal.specs.Number.{numberOf};
 ghost use Rattle.answer.specs.Put.{Room, Puts};
 ghost use Rattle.answer.specs.Text.{hasRoom, PutsWithRoom};
 
@@ -137,29 +138,8 @@ fn put_refusal(out: &mut [u8], at: usize, refused: Refusal) -> usize
     requires { ⌜ Room (now out) at 320 ⌝ }
     ensures { λ r. ⌜ Puts (now (out .entry)) at (text (refusal (numberOf refused))) (now (out .exit)) r ⌝ }
 {
-    let question = number_of(refused);
+    let question = refused.number();
     let word = put(out, at, b"NO");
     let last = put_number(out, word, question);
     put_byte(out, last, 10)
-}
-
-// The number of the question that is answered no.
-fn number_of(refused: Refusal) -> u64
-    ensures { λ r. ⌜ r ≡ numberOf refused ⌝ }
-{
-    match refused {
-        Refusal::Long => 1,
-        Refusal::Word => 2,
-        Refusal::Letter => 3,
-        Refusal::Count => 4,
-        Refusal::Writing => 5,
-        Refusal::Limits => 6,
-        Refusal::Given => 7,
-        Refusal::Declared => 8,
-        Refusal::Rate => 9,
-        Refusal::Turn => 10,
-        Refusal::Incurred => 11,
-        Refusal::Falls => 12,
-        Refusal::Pattern => 13,
-    }
 }

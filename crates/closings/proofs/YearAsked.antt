@@ -22,7 +22,7 @@ use Rattle.reserve.specs.YearEnd.{hasLimits}
 use Rattle.reserve.proofs.Verdicts.{limits-of-year}
 use Rattle.state.specs.declared.book.Book.{Book}
 use Rattle.state.specs.declared.book.Line.{Line}
-use Rattle.ledger.specs.declared.answer.Refusal.the-variants as refusal
+use Rattle.refusal.specs.declared.Refusal.the-variants as refusal
 use Rattle.ledger.specs.declared.answer.Outcome.{Outcome}
 use Rattle.state.specs.Lines.{lineAt}
 use Rattle.state.specs.Patterns.{keptCount}
@@ -49,11 +49,11 @@ module _ (letter year : ℕ) (paid : List ℤ) (unpaid tabular : List ℕ) (lett
   limits-are : isWithinLimits asks ≡ (dated && hasLimits paid unpaid tabular)
   limits-are = limits-of-year letter paid unpaid tabular year ∙ rw (← ed)
 
-  pub year-refused : dated ≡ false → (book : Book) (r : Outcome) → r ≡ refusedOf book refusal.Limits → DoesAnyhow book (asNumbers asks) r
+  pub year-refused : dated ≡ false → (book : Book) (r : Outcome) → r ≡ refusedOf book refusal.OutsideLimits → DoesAnyhow book (asNumbers asks) r
   year-refused d book r er = limits-refused book asks r lettered el l counted ec n (isWithinLimits asks) refl (limits-are ∙ rw d) er
 
   module _ (d : dated ≡ true) (limited : Bool) (em : limited ≡ hasLimits paid unpaid tabular) where
-    pub rows-refused : limited ≡ false → (book : Book) (r : Outcome) → r ≡ refusedOf book refusal.Limits → DoesAnyhow book (asNumbers asks) r
+    pub rows-refused : limited ≡ false → (book : Book) (r : Outcome) → r ≡ refusedOf book refusal.OutsideLimits → DoesAnyhow book (asNumbers asks) r
     rows-refused m book r er =
         limits-refused book asks r lettered el l counted ec n (isWithinLimits asks) refl (limits-are ∙ and-no dated (hasLimits paid unpaid tabular) (sym em ∙ m)) er
 
@@ -116,11 +116,11 @@ module _ (book : Book) (letter year : ℕ) (paid : List ℤ) (unpaid tabular : L
   turned d due ed t = record { sound = sound; here = here; declared = d; due = sym ed ∙ t }
 
   module _ (slots : List ℕ) (r : Outcome) where
-    pub undeclared : line .declared ≡ false → r ≡ refusedOf book refusal.Declared → Settled (view book slots) call slots r slots
-    undeclared d er = refused book refusal.Declared (firstNo (bookQuestions (view book slots) call)) call slots r (first-is slots ∙ rw d) er
+    pub undeclared : line .declared ≡ false → r ≡ refusedOf book refusal.NotDeclared → Settled (view book slots) call slots r slots
+    undeclared d er = refused book refusal.NotDeclared (firstNo (bookQuestions (view book slots) call)) call slots r (first-is slots ∙ rw d) er
 
-    pub out-of-turn : line .declared ≡ true → (due : Bool) → due ≡ isDue letter line year → due ≡ false → r ≡ refusedOf book refusal.Turn → Settled (view book slots) call slots r slots
-    out-of-turn d due ed t er = refused book refusal.Turn (firstNo (bookQuestions (view book slots) call)) call slots r (first-is slots ∙ rw (← ed, t, d)) er
+    pub out-of-turn : line .declared ≡ true → (due : Bool) → due ≡ isDue letter line year → due ≡ false → r ≡ refusedOf book refusal.OutOfTurn → Settled (view book slots) call slots r slots
+    out-of-turn d due ed t er = refused book refusal.OutOfTurn (firstNo (bookQuestions (view book slots) call)) call slots r (first-is slots ∙ rw (← ed, t, d)) er
 
 module _ (book : Book) (line : Line) (letter year : ℕ) (paid : List ℤ) (unpaid tabular : List ℕ) (pre : Turned book line letter year paid unpaid tabular) where
   pub turned-rows : Paired letter unpaid tabular
@@ -132,9 +132,9 @@ module _ (book : Book) (line : Line) (letter year : ℕ) (paid : List ℤ) (unpa
       ∙ rw (patterns-are book letter year paid unpaid tabular (pre .sound) line (pre .here) slots (pre .due), ← eh, pre .due, pre .declared)
 
   module _ (has : Bool) (eh : has ≡ havePatterns (keptCount letter line) (ages letter) unpaid tabular) where
-    pub no-pattern : has ≡ false → (slots : List ℕ) (r : Outcome) → r ≡ refusedOf book refusal.Pattern → Settled (view book slots) (closeYear letter year paid unpaid tabular) slots r slots
+    pub no-pattern : has ≡ false → (slots : List ℕ) (r : Outcome) → r ≡ refusedOf book refusal.NoPattern → Settled (view book slots) (closeYear letter year paid unpaid tabular) slots r slots
     no-pattern h slots r er =
-        refused book refusal.Pattern (firstNo (bookQuestions (view book slots) (closeYear letter year paid unpaid tabular))) (closeYear letter year paid unpaid tabular) slots r (by-patterns slots has eh ∙ rw h) er
+        refused book refusal.NoPattern (firstNo (bookQuestions (view book slots) (closeYear letter year paid unpaid tabular))) (closeYear letter year paid unpaid tabular) slots r (by-patterns slots has eh ∙ rw h) er
 
     pub all-passed : has ≡ true → Passed book line letter year paid unpaid tabular
     all-passed h = record { turned = pre; patterns = sym eh ∙ h }

@@ -5,11 +5,11 @@ use kinds::year::is_year;
 use ledger::accept::accept;
 use ledger::answer::Answer;
 use ledger::answer::Outcome;
-use ledger::answer::Refusal;
 use ledger::refuse::refuse;
 use letters::letter::is_covered;
 use money::closing::Closing;
 use money::opening::Opening;
+use refusal::Refusal;
 use reserve::questions::has_lengths;
 use reserve::questions::has_limits;
 use reserve::year_end::year_end;
@@ -47,13 +47,13 @@ pub fn close_year(
                 if has_limits(paid, unpaid, tabular) {
                     return ask_declared(book, patterns, letter, year, paid, unpaid, tabular);
                 }
-                return refuse(book, Refusal::Limits);
+                return refuse(book, Refusal::OutsideLimits);
             }
-            return refuse(book, Refusal::Limits);
+            return refuse(book, Refusal::OutsideLimits);
         }
-        return refuse(book, Refusal::Count);
+        return refuse(book, Refusal::WrongCount);
     }
-    refuse(book, Refusal::Letter)
+    refuse(book, Refusal::UncoveredLetter)
 }
 
 // "8. PATT, YEAR: is the line declared?" "10. .. YEAR: is it the year of the last pattern, not yet closed?", and on.
@@ -74,9 +74,9 @@ fn ask_declared(
         if is_due(letter, line, year) {
             return ask_patterns(book, patterns, line, letter, year, paid, unpaid, tabular);
         }
-        return refuse(book, Refusal::Turn);
+        return refuse(book, Refusal::OutOfTurn);
     }
-    refuse(book, Refusal::Declared)
+    refuse(book, Refusal::NotDeclared)
 }
 
 // "is it the year of the last pattern, not yet closed?"
@@ -112,7 +112,7 @@ fn ask_patterns(
     if have_patterns(letter, line, unpaid, tabular) {
         return end_year(book, patterns, line, letter, year, paid, unpaid, tabular);
     }
-    refuse(book, Refusal::Pattern)
+    refuse(book, Refusal::NoPattern)
 }
 
 // The closing kept, and the tax-basis loss.

@@ -15,9 +15,10 @@ use Rattle.record.specs.Request.{refusedAt, asks, readOf}
 use Rattle.record.proofs.Answers.{refused-is, asked-is, asked-sound}
 use Rattle.state.specs.declared.book.Book.{Book}
 use Rattle.state.specs.View.{view}
-use Rattle.ledger.specs.declared.answer.Refusal.{Refusal}
+use Rattle.refusal.specs.declared.Refusal.{Refusal}
 use Rattle.ledger.specs.declared.answer.Outcome.{Outcome}
-use Rattle.ledger.specs.Answer.{numberOf, refusedOf}
+use Rattle.ledger.specs.Answer.{refusedOf}
+use Rattle.refusal.specs.Number.{numberOf}
 use Rattle.ledger.specs.Does.{Does}
 use Rattle.ledger.proofs.Settling.{does, refused, goes-on}
 

@@ -19,10 +19,11 @@ use Rattle.record.specs.Request.{refusedAt, patternCall, yearCall, saying, requ
 use Rattle.record.proofs.request.Verdict.{the-type}
 use Rattle.record.proofs.Answers.{said}
 use Rattle.state.specs.declared.book.Book.{Book}
-use Rattle.ledger.specs.declared.answer.Refusal.{Refusal}
+use Rattle.refusal.specs.declared.Refusal.{Refusal}
 use Rattle.ledger.specs.declared.answer.Outcome.{Outcome}
 use Rattle.state.specs.View.{view}
-use Rattle.ledger.specs.Answer.{numberOf, refusedOf}
+use Rattle.ledger.specs.Answer.{refusedOf}
+use Rattle.refusal.specs.Number.{numberOf}
 use Rattle.ledger.specs.Does.{Does, DoesAnyhow}
 use Rattle.journal.specs.Apply.{refusalOf}
 use Rattle.journal.proofs.LineQuestions.{line-refused, line-asks}

@@ -14,22 +14,22 @@ use Rattle.record.specs.declared.request.Verdict.{Verdict}
 use Rattle.record.specs.declared.request.Verdict.the-variants as verdict
 use Rattle.state.specs.declared.book.Book.{Book}
 use Rattle.state.specs.View.{view}
-use Rattle.ledger.specs.declared.answer.Refusal.{Refusal}
-use Rattle.ledger.specs.declared.answer.Refusal.the-variants as refusal
+use Rattle.refusal.specs.declared.Refusal.{Refusal}
+use Rattle.refusal.specs.declared.Refusal.the-variants as refusal
 use Rattle.ledger.specs.Does.{slotsAfter}
 
 -- the question of 1 to 6 that a record's verdict answers no
 abbrev pub refusalOf : Verdict → Refusal
-refusalOf verdict.Long = refusal.Long
-refusalOf verdict.Word = refusal.Word
-refusalOf verdict.Letter = refusal.Letter
-refusalOf verdict.Count = refusal.Count
-refusalOf verdict.Writing = refusal.Writing
-refusalOf verdict.Limits = refusal.Limits
-refusalOf verdict.Declare = refusal.Limits
-refusalOf verdict.SetRate = refusal.Limits
-refusalOf verdict.AddPattern = refusal.Limits
-refusalOf verdict.CloseYear = refusal.Limits
+refusalOf verdict.Long = refusal.TooLong
+refusalOf verdict.Word = refusal.UnknownWord
+refusalOf verdict.Letter = refusal.UncoveredLetter
+refusalOf verdict.Count = refusal.WrongCount
+refusalOf verdict.Writing = refusal.BadlyWritten
+refusalOf verdict.Limits = refusal.OutsideLimits
+refusalOf verdict.Declare = refusal.OutsideLimits
+refusalOf verdict.SetRate = refusal.OutsideLimits
+refusalOf verdict.AddPattern = refusal.OutsideLimits
+refusalOf verdict.CloseYear = refusal.OutsideLimits
 
 -- the lent list after a list of requests
 unfoldable pub slotsAfterAll : model.Book → List model-step.Request → List ℕ → List ℕ

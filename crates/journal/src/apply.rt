@@ -1,7 +1,6 @@
 // One record, by the bytes of its line.
 use closings::close_year::close_year;
 use ledger::answer::Outcome;
-use ledger::answer::Refusal;
 use ledger::declare::declare;
 use ledger::refuse::refuse;
 use ledger::set_rate::set_rate;
@@ -10,6 +9,7 @@ use patterns::add_pattern::add_pattern;
 use record::read::read;
 use record::request::Request;
 use record::request::Verdict;
+use refusal::Refusal;
 use state::book::Book;
 use state::book::Patterns;
 ghost use mathlib.Core.Path.{_≡_};
@@ -42,16 +42,16 @@ fn refusal_of(verdict: Verdict) -> Refusal
     ensures { λ r. ⌜ r ≡ refusalOf verdict ⌝ }
 {
     match verdict {
-        Verdict::Long => Refusal::Long,
-        Verdict::Word => Refusal::Word,
-        Verdict::Letter => Refusal::Letter,
-        Verdict::Count => Refusal::Count,
-        Verdict::Writing => Refusal::Writing,
-        Verdict::Limits => Refusal::Limits,
-        Verdict::Declare => Refusal::Limits,
-        Verdict::SetRate => Refusal::Limits,
-        Verdict::AddPattern => Refusal::Limits,
-        Verdict::CloseYear => Refusal::Limits,
+        Verdict::Long => Refusal::TooLong,
+        Verdict::Word => Refusal::UnknownWord,
+        Verdict::Letter => Refusal::UncoveredLetter,
+        Verdict::Count => Refusal::WrongCount,
+        Verdict::Writing => Refusal::BadlyWritten,
+        Verdict::Limits => Refusal::OutsideLimits,
+        Verdict::Declare => Refusal::OutsideLimits,
+        Verdict::SetRate => Refusal::OutsideLimits,
+        Verdict::AddPattern => Refusal::OutsideLimits,
+        Verdict::CloseYear => Refusal::OutsideLimits,
     }
 }
 

@@ -1,15 +1,31 @@
 // "Factors are kept in units of the tenth decimal, so 1 is 10,000,000,000.": a kept factor is at most 1.
 ghost use mathlib.Core.Path.{_≡_};
-ghost use Rattle.kinds.specs.Factor.{factorNumber};
+ghost use Rattle.kinds.specs.Factor.{factorOf, factorNumber};
 
 pub struct Factor {
     pub value: u64,
 }
 
+pub enum MaybeFactor {
+    Within(Factor),
+    Outside,
+}
+
 impl Factor {
     pub const ONE: u64 = 10000000000;
 
-    // Every Factor is at most 1: what lies past it is read as 1.
+    // The factor that n is, or that it is none.
+    pub fn new(n: u64) -> MaybeFactor
+        ensures { λ r. ⌜ r ≡ factorOf n ⌝ }
+    {
+        if n <= Factor::ONE {
+            MaybeFactor::Within(Factor { value: n })
+        } else {
+            MaybeFactor::Outside
+        }
+    }
+
+    // Every Factor is at most 1.
     pub fn number(self) -> u64
         ensures { λ r. ⌜ r ≡ factorNumber self ⌝ }
     {

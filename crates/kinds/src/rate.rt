@@ -27,7 +27,7 @@ impl Rate {
         }
     }
 
-    // Every Rate is within its limits: what lies past them is read as the limit.
+    // Every Rate is within its limits.
     pub fn number(self) -> u64
         ensures { λ r. ⌜ r ≡ rateNumber self ⌝ }
     {
@@ -41,12 +41,22 @@ impl Rate {
     {
         let mut i = 0;
         while i < list.len() {
-            if list[i] <= Rate::MOST {
+            if is_rate(list[i]) {
                 i += 1;
             } else {
                 return false;
             }
         }
         true
+    }
+}
+
+// "A rate is a whole number of hundredths of a percent, 0 to 2500."
+fn is_rate(n: u64) -> bool
+    ensures { λ r. ⌜ r ≡ isRate n ⌝ }
+{
+    match Rate::new(n) {
+        MaybeRate::Within(_) => true,
+        MaybeRate::Outside => false,
     }
 }

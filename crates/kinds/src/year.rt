@@ -31,7 +31,7 @@ impl Year {
         }
     }
 
-    // Every Year is within its limits: what lies past them is read as the limit.
+    // Every Year is within its limits.
     pub fn number(self) -> u64
         ensures { λ r. ⌜ r ≡ yearNumber self ⌝ }
     {

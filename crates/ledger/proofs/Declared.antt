@@ -16,7 +16,7 @@ use Rattle.model.specs.Question.{Sound, bookQuestions, firstNo}
 use Rattle.model.specs.Step.{asNumbers, declaredLine, accept}
 use Rattle.state.specs.declared.book.Book.{Book}
 use Rattle.state.specs.declared.book.Line.{Line}
-use Rattle.ledger.specs.declared.answer.Refusal.the-variants as refusal
+use Rattle.refusal.specs.declared.Refusal.the-variants as refusal
 use Rattle.ledger.specs.declared.answer.Answer.the-variants as answer
 use Rattle.ledger.specs.declared.answer.Outcome.{Outcome}
 use Rattle.state.specs.Lines.{lineAt, newLine, withLineOf}
@@ -39,8 +39,8 @@ module _ (book : Book) (letter opening : ℕ) (sound : Sound (declare letter ope
   first-is slots true d = rw (declared-is book slots letter line here, d)
   first-is slots false d = rw (declared-is book slots letter line here, d)
 
-  pub given-refused : line .declared ≡ true → r ≡ refusedOf book refusal.Given → SettledAnyhow book (declare letter opening) r
-  given-refused d er slots = refused book refusal.Given (firstNo (bookQuestions (view book slots) (declare letter opening))) (declare letter opening) slots r (first-is slots true d) er
+  pub given-refused : line .declared ≡ true → r ≡ refusedOf book refusal.AlreadyGiven → SettledAnyhow book (declare letter opening) r
+  given-refused d er slots = refused book refusal.AlreadyGiven (firstNo (bookQuestions (view book slots) (declare letter opening))) (declare letter opening) slots r (first-is slots true d) er
 
   pub declared : line .declared ≡ false → length (book .lines) ≡ 15 → (later : Book) → later ≡ withLineOf book letter (newLine opening) → r ≡ acceptedOf later (answer.Line letter opening) nothing → SettledAnyhow book (declare letter opening) r
   unfolding accept slotsAfter
@@ -57,5 +57,5 @@ module _ (letter opening : ℕ) (lettered : Bool) (el : lettered ≡ covered let
   pub opening-sound : limited ≡ true → Sound (declare letter opening)
   opening-sound o = record { letter = sym el ∙ l; lengths = refl; limits = sym eo ∙ o }
 
-  pub opening-refused : limited ≡ false → (book : Book) (r : Outcome) → r ≡ refusedOf book refusal.Limits → DoesAnyhow book (asNumbers (declare letter opening)) r
+  pub opening-refused : limited ≡ false → (book : Book) (r : Outcome) → r ≡ refusedOf book refusal.OutsideLimits → DoesAnyhow book (asNumbers (declare letter opening)) r
   opening-refused o book r er = limits-refused book (declare letter opening) r lettered el l true refl refl limited eo o er

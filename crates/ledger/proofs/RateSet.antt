@@ -26,8 +26,8 @@ use Rattle.rates.proofs.rate.Mean.{the-type}
 use Rattle.rates.specs.declared.rate.Mean.the-variants as mean
 use Rattle.rates.proofs.Totals.{sum-small}
 use Rattle.state.specs.declared.book.Book.{Book}
-use Rattle.ledger.specs.declared.answer.Refusal.{Refusal}
-use Rattle.ledger.specs.declared.answer.Refusal.the-variants as refusal
+use Rattle.refusal.specs.declared.Refusal.{Refusal}
+use Rattle.refusal.specs.declared.Refusal.the-variants as refusal
 use Rattle.ledger.specs.declared.answer.Answer.the-variants as answer
 use Rattle.ledger.specs.declared.answer.Outcome.{Outcome}
 use Rattle.state.specs.declared.rates.YearRate.{YearRate}
@@ -91,13 +91,13 @@ module _ (year : ℕ) (months : List ℕ) (m : Mean) (em : m ≡ meanOf months) 
     pub rate-on : limited ≡ true → (book : Book) (r : Outcome) → SettledAnyhow book (setRate year months) r → DoesAnyhow book (asNumbers (setRate year months)) r
     rate-on y book r h = goes-on-anyhow book (setRate year months) r (averaged y .sound) h
 
-    pub year-refused : limited ≡ false → (book : Book) (r : Outcome) → r ≡ refusedOf book refusal.Limits → DoesAnyhow book (asNumbers (setRate year months)) r
+    pub year-refused : limited ≡ false → (book : Book) (r : Outcome) → r ≡ refusedOf book refusal.OutsideLimits → DoesAnyhow book (asNumbers (setRate year months)) r
     year-refused y book r er = limits-refused book (setRate year months) r true refl refl sixty refl (tests .0) (isWithinLimits (setRate year months)) refl (rw (← ey, y)) er
 
-  months-counted : m ≡ mean.Length → (book : Book) (r : Outcome) → r ≡ refusedOf book refusal.Count → DoesAnyhow book (asNumbers (setRate year months)) r
+  months-counted : m ≡ mean.Length → (book : Book) (r : Outcome) → r ≡ refusedOf book refusal.WrongCount → DoesAnyhow book (asNumbers (setRate year months)) r
   months-counted e book r er = count-refused book (setRate year months) r true refl refl sixty refl (is-length sixty rates rate-of-months (sym em ∙ e)) er
 
-  months-limited : m ≡ mean.Limits → (book : Book) (r : Outcome) → r ≡ refusedOf book refusal.Limits → DoesAnyhow book (asNumbers (setRate year months)) r
+  months-limited : m ≡ mean.Limits → (book : Book) (r : Outcome) → r ≡ refusedOf book refusal.OutsideLimits → DoesAnyhow book (asNumbers (setRate year months)) r
   months-limited e book r er =
       let t = is-limits sixty rates rate-of-months (sym em ∙ e) in
       limits-refused book (setRate year months) r true refl refl sixty refl (t .0) (isWithinLimits (setRate year months)) refl (and-false (isYear year) rates (t .1)) er
@@ -118,9 +118,9 @@ module _ (book : Book) (year : ℕ) (rate : Rate) (months : List ℕ) (pre : Ave
   first-is slots none e = rw e
   first-is slots (some n) e = rw e
 
-  pub rate-given : (old : Rate) → before ≡ year-rate.Given old → r ≡ refusedOf book refusal.Given → SettledAnyhow book (setRate year months) r
+  pub rate-given : (old : Rate) → before ≡ year-rate.Given old → r ≡ refusedOf book refusal.AlreadyGiven → SettledAnyhow book (setRate year months) r
   rate-given old e er slots =
-      refused book refusal.Given (firstNo (bookQuestions (view book slots) (setRate year months))) (setRate year months) slots r (first-is slots (some (rateNumber old)) (sym eb ∙ ap yearRate e)) er
+      refused book refusal.AlreadyGiven (firstNo (bookQuestions (view book slots) (setRate year months))) (setRate year months) slots r (first-is slots (some (rateNumber old)) (sym eb ∙ ap yearRate e)) er
 
   pub rate-set : before ≡ year-rate.Missing → length (book .rates) ≡ 113 → (later : Book) → later ≡ withRateOf book year (rateNumber rate) → (n : ℕ) → n ≡ rateNumber rate → r ≡ acceptedOf later (answer.Rate year n) nothing → SettledAnyhow book (setRate year months) r
   unfolding accept slotsAfter

@@ -10,12 +10,13 @@ use Rattle.model.specs.Call.{Call}
 use Rattle.model.specs.Question.{Sound, hasLetter, hasLengths, isWithinLimits, callQuestions, bookQuestions, firstNo}
 use Rattle.model.specs.Step.{Request, asNumbers, asked, questions, oneMore, refuse, step}
 use Rattle.state.specs.declared.book.Book.{Book}
-use Rattle.ledger.specs.declared.answer.Refusal.{Refusal}
-use Rattle.ledger.specs.declared.answer.Refusal.the-variants.{Letter, Count, Limits}
+use Rattle.refusal.specs.declared.Refusal.{Refusal}
+use Rattle.refusal.specs.declared.Refusal.the-variants.{UncoveredLetter, WrongCount, OutsideLimits}
 use Rattle.ledger.specs.declared.answer.Answer.the-variants.{No}
 use Rattle.ledger.specs.declared.answer.Outcome.{Outcome}
 use Rattle.state.specs.View.{view}
-use Rattle.ledger.specs.Answer.{numberOf, nothing, refusedOf}
+use Rattle.ledger.specs.Answer.{nothing, refusedOf}
+use Rattle.refusal.specs.Number.{numberOf}
 use Rattle.ledger.specs.Does.{slotsAfter, Settles, Settled, Does, SettledAnyhow, DoesAnyhow}
 
 -- a request by its first question answered no
@@ -52,18 +53,18 @@ module _ (book : model.Book) (call : Call) where
   goes-on s = rw (s .letter, s .lengths, s .limits)
 
 module _ (book : Book) (call : Call) (r : Outcome) (lettered : Bool) (el : lettered ≡ hasLetter call) where
-  pub letter-refused : lettered ≡ false → r ≡ refusedOf book Letter → DoesAnyhow book (asNumbers call) r
+  pub letter-refused : lettered ≡ false → r ≡ refusedOf book UncoveredLetter → DoesAnyhow book (asNumbers call) r
   letter-refused l er slots =
-      does (view book slots) (asNumbers call) slots r slots (some 3) (letter-no (view book slots) call (sym el ∙ l)) (refused book Letter (some 3) call slots r refl er)
+      does (view book slots) (asNumbers call) slots r slots (some 3) (letter-no (view book slots) call (sym el ∙ l)) (refused book UncoveredLetter (some 3) call slots r refl er)
 
   module _ (l : lettered ≡ true) (counted : Bool) (en : counted ≡ hasLengths call) where
-    pub count-refused : counted ≡ false → r ≡ refusedOf book Count → DoesAnyhow book (asNumbers call) r
+    pub count-refused : counted ≡ false → r ≡ refusedOf book WrongCount → DoesAnyhow book (asNumbers call) r
     count-refused n er slots =
-        does (view book slots) (asNumbers call) slots r slots (some 4) (count-no (view book slots) call (sym el ∙ l) (sym en ∙ n)) (refused book Count (some 4) call slots r refl er)
+        does (view book slots) (asNumbers call) slots r slots (some 4) (count-no (view book slots) call (sym el ∙ l) (sym en ∙ n)) (refused book WrongCount (some 4) call slots r refl er)
 
-    pub limits-refused : counted ≡ true → (limited : Bool) → limited ≡ isWithinLimits call → limited ≡ false → r ≡ refusedOf book Limits → DoesAnyhow book (asNumbers call) r
+    pub limits-refused : counted ≡ true → (limited : Bool) → limited ≡ isWithinLimits call → limited ≡ false → r ≡ refusedOf book OutsideLimits → DoesAnyhow book (asNumbers call) r
     limits-refused n limited em m er slots =
-        does (view book slots) (asNumbers call) slots r slots (some 6) (limits-no (view book slots) call (sym el ∙ l) (sym en ∙ n) (sym em ∙ m)) (refused book Limits (some 6) call slots r refl er)
+        does (view book slots) (asNumbers call) slots r slots (some 6) (limits-no (view book slots) call (sym el ∙ l) (sym en ∙ n) (sym em ∙ m)) (refused book OutsideLimits (some 6) call slots r refl er)
 
 pub goes-on-does : (book : model.Book) (call : Call) (slots : List ℕ) (r : Outcome) (later : List ℕ) → Sound call → Settled book call slots r later → Does book (asNumbers call) slots r later
 goes-on-does book call slots r later s h = does book (asNumbers call) slots r later (firstNo (bookQuestions book call)) (goes-on book call s) h

@@ -8,28 +8,12 @@ use Rattle.model.specs.Answer as model
 use Rattle.model.specs.Step as model-step
 use Rattle.model.specs.Step.{oneMore}
 use Rattle.state.specs.declared.book.Book.{Book}
-use Rattle.ledger.specs.declared.answer.Refusal.{Refusal}
-use Rattle.ledger.specs.declared.answer.Refusal.the-variants as refusal
+use Rattle.refusal.specs.declared.Refusal.{Refusal}
+use Rattle.refusal.specs.Number.{numberOf}
 use Rattle.ledger.specs.declared.answer.Answer.{Answer}
 use Rattle.ledger.specs.declared.answer.Answer.the-variants as answer
 use Rattle.ledger.specs.declared.answer.Outcome.{Outcome}
 use Rattle.state.specs.View.{view}
-
--- each refusal's number
-abbrev pub numberOf : Refusal → ℕ
-numberOf refusal.Long = 1
-numberOf refusal.Word = 2
-numberOf refusal.Letter = 3
-numberOf refusal.Count = 4
-numberOf refusal.Writing = 5
-numberOf refusal.Limits = 6
-numberOf refusal.Given = 7
-numberOf refusal.Declared = 8
-numberOf refusal.Rate = 9
-numberOf refusal.Turn = 10
-numberOf refusal.Incurred = 11
-numberOf refusal.Falls = 12
-numberOf refusal.Pattern = 13
 
 -- each answer's values; a FACT's factors and composite stand beside it
 abbrev pub answered : Answer → List ℕ → model.Answer

@@ -8,14 +8,14 @@ use Rattle.model.specs.Question.{Sound}
 use Rattle.model.specs.Rate.{rateOf}
 use Rattle.rates.specs.declared.rate.Mean.{Mean}
 use Rattle.rates.specs.declared.rate.Mean.the-variants as mean
-use Rattle.ledger.specs.declared.answer.Refusal.{Refusal}
-use Rattle.ledger.specs.declared.answer.Refusal.the-variants as refusal
+use Rattle.refusal.specs.declared.Refusal.{Refusal}
+use Rattle.refusal.specs.declared.Refusal.the-variants as refusal
 
 -- questions 4 and 6 of the months, as `mean_rate` answers them
 abbrev pub refusalOf : Mean → Refusal
-refusalOf (mean.Is rate) = refusal.Limits
-refusalOf mean.Length = refusal.Count
-refusalOf mean.Limits = refusal.Limits
+refusalOf (mean.Is rate) = refusal.OutsideLimits
+refusalOf mean.Length = refusal.WrongCount
+refusalOf mean.Limits = refusal.OutsideLimits
 
 -- a RATE that they let through
 pub record Averaged (year rate : ℕ) (months : List ℕ) : Type 0 where

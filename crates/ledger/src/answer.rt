@@ -1,22 +1,6 @@
 // What a record is answered, and the book that it leaves.
+use refusal::Refusal;
 use state::book::Book;
-
-// The question that is answered no, by what it asks: 1 to 13 in document 01's order.
-pub enum Refusal {
-    Long,
-    Word,
-    Letter,
-    Count,
-    Writing,
-    Limits,
-    Given,
-    Declared,
-    Rate,
-    Turn,
-    Incurred,
-    Falls,
-    Pattern,
-}
 
 pub enum Answer {
     Line {

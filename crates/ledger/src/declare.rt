@@ -2,10 +2,10 @@
 use crate::accept::accept;
 use crate::answer::Answer;
 use crate::answer::Outcome;
-use crate::answer::Refusal;
 use crate::refuse::refuse;
 use letters::letter::is_covered;
 use money::opening::is_opening;
+use refusal::Refusal;
 use state::book::Book;
 use state::book::Line;
 use state::lines::line_of;
@@ -23,9 +23,9 @@ pub fn declare(book: Book, letter: u8, opening: u64) -> Outcome
         if is_opening(opening) {
             return ask_given(book, letter, opening);
         }
-        return refuse(book, Refusal::Limits);
+        return refuse(book, Refusal::OutsideLimits);
     }
-    refuse(book, Refusal::Letter)
+    refuse(book, Refusal::UncoveredLetter)
 }
 
 // "7. LINE, RATE: is that line or that year's rate still to be given?"
@@ -35,7 +35,7 @@ fn ask_given(book: Book, letter: u8, opening: u64) -> Outcome
 {
     let before = line_of(book, letter);
     if before.declared {
-        return refuse(book, Refusal::Given);
+        return refuse(book, Refusal::AlreadyGiven);
     }
     let line = Line {
         declared: true,

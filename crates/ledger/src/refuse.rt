@@ -2,7 +2,7 @@
 use crate::accept::one_more;
 use crate::answer::Answer;
 use crate::answer::Outcome;
-use crate::answer::Refusal;
+use refusal::Refusal;
 use state::book::Book;
 ghost use mathlib.Core.Path.{_≡_};
 ghost use Rattle.ledger.specs.Answer.{refusedOf};

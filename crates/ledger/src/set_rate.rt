@@ -2,12 +2,12 @@
 use crate::accept::accept;
 use crate::answer::Answer;
 use crate::answer::Outcome;
-use crate::answer::Refusal;
 use crate::refuse::refuse;
 use kinds::rate::Rate;
 use kinds::year::is_year;
 use rates::rate::Mean;
 use rates::rate::mean_rate;
+use refusal::Refusal;
 use state::book::Book;
 use state::rates::YearRate;
 use state::rates::rate_of;
@@ -30,7 +30,7 @@ pub fn set_rate(book: Book, year: u64, months: &[u64]) -> Outcome
     if is_year(year) {
         return ask_given(book, year, rate, months);
     }
-    refuse(book, Refusal::Limits)
+    refuse(book, Refusal::OutsideLimits)
 }
 
 // The question about the months that is answered no. (It is not asked for where none is.)
@@ -38,9 +38,9 @@ fn refusal_of(mean: Mean) -> Refusal
     ensures { λ r. ⌜ r ≡ refusalOf mean ⌝ }
 {
     match mean {
-        Mean::Is(_) => Refusal::Limits,
-        Mean::Length => Refusal::Count,
-        Mean::Limits => Refusal::Limits,
+        Mean::Is(_) => Refusal::OutsideLimits,
+        Mean::Length => Refusal::WrongCount,
+        Mean::Limits => Refusal::OutsideLimits,
     }
 }
 
@@ -51,7 +51,7 @@ fn ask_given(book: Book, year: u64, rate: Rate, months: &[u64]) -> Outcome
 {
     let before = rate_of(book, year);
     match before {
-        YearRate::Given(_) => refuse(book, Refusal::Given),
+        YearRate::Given(_) => refuse(book, Refusal::AlreadyGiven),
         YearRate::Missing => {
             let later = with_rate(book, year, rate);
             accept(

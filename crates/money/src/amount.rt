@@ -27,7 +27,7 @@ impl Amount {
         }
     }
 
-    // Every Amount is within its limits: what lies past them is read as the limit.
+    // Every Amount is within its limits.
     pub fn number(self) -> u64
         ensures { λ r. ⌜ r ≡ amountNumber self ⌝ }
     {
@@ -41,12 +41,22 @@ impl Amount {
     {
         let mut i = 0;
         while i < list.len() {
-            if list[i] <= Amount::MOST {
+            if is_amount(list[i]) {
                 i += 1;
             } else {
                 return false;
             }
         }
         true
+    }
+}
+
+// "Other money is 0 to 10,000,000,000"
+fn is_amount(n: u64) -> bool
+    ensures { λ r. ⌜ r ≡ isAmount n ⌝ }
+{
+    match Amount::new(n) {
+        MaybeAmount::Within(_) => true,
+        MaybeAmount::Outside => false,
     }
 }

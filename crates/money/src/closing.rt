@@ -1,15 +1,31 @@
 // What a year closes or opens with: eleven rows of at most 10,000,000,000 each, and a declared opening is less.
 ghost use mathlib.Core.Path.{_≡_};
-ghost use Rattle.money.specs.Closing.{closingNumber};
+ghost use Rattle.money.specs.Closing.{closingOf, closingNumber};
 
 pub struct Closing {
     pub value: u64,
 }
 
+pub enum MaybeClosing {
+    Within(Closing),
+    Outside,
+}
+
 impl Closing {
     pub const MOST: u64 = 110000000000;
 
-    // Every Closing is within its limits: what lies past them is read as the limit.
+    // The closing that n is, or that it is none.
+    pub fn new(n: u64) -> MaybeClosing
+        ensures { λ r. ⌜ r ≡ closingOf n ⌝ }
+    {
+        if n <= Closing::MOST {
+            MaybeClosing::Within(Closing { value: n })
+        } else {
+            MaybeClosing::Outside
+        }
+    }
+
+    // Every Closing is within its limits.
     pub fn number(self) -> u64
         ensures { λ r. ⌜ r ≡ closingNumber self ⌝ }
     {

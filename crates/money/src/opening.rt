@@ -26,7 +26,7 @@ impl Opening {
         }
     }
 
-    // Every Opening is within its limits: what lies past them is read as the limit.
+    // Every Opening is within its limits.
     pub fn number(self) -> u64
         ensures { λ r. ⌜ r ≡ openingNumber self ⌝ }
     {

@@ -31,22 +31,29 @@ impl Paid {
             MaybePaid::Outside
         }
     }
+
     // Is every number of the list a paid?
     pub fn all(list: &[i64]) -> bool
         ensures { λ r. ⌜ r ≡ all isPaid (now (list .entry)) ⌝ }
     {
         let mut i = 0;
         while i < list.len() {
-            let v = list[i];
-            if v < Paid::LEAST {
-                return false;
-            }
-            if v <= Paid::MOST {
+            if is_paid(list[i]) {
                 i += 1;
             } else {
                 return false;
             }
         }
         true
+    }
+}
+
+// "and paid in YEAR also down to -10,000,000,000."
+fn is_paid(v: i64) -> bool
+    ensures { λ r. ⌜ r ≡ isPaid v ⌝ }
+{
+    match Paid::new(v) {
+        MaybePaid::Within(_) => true,
+        MaybePaid::Outside => false,
     }
 }

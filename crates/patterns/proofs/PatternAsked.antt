@@ -26,15 +26,16 @@ use Rattle.payments.specs.Schedule.{inPlaces}
 use Rattle.factor.specs.Pattern.{keptOf, patternBy, patternOf}
 use Rattle.state.specs.declared.book.Book.{Book}
 use Rattle.state.specs.declared.book.Line.{Line}
-use Rattle.ledger.specs.declared.answer.Refusal.{Refusal}
-use Rattle.ledger.specs.declared.answer.Refusal.the-variants as refusal
+use Rattle.refusal.specs.declared.Refusal.{Refusal}
+use Rattle.refusal.specs.declared.Refusal.the-variants as refusal
 use Rattle.ledger.specs.declared.answer.Outcome.{Outcome}
 use Rattle.state.specs.declared.rates.YearRate.{YearRate}
 use Rattle.state.specs.declared.rates.YearRate.the-variants as year-rate
 use Rattle.state.specs.Rates.{ratesOf, yearRate}
 use Rattle.state.specs.Lines.{lineAt}
 use Rattle.state.specs.View.{view}
-use Rattle.ledger.specs.Answer.{numberOf, refusedOf}
+use Rattle.ledger.specs.Answer.{refusedOf}
+use Rattle.refusal.specs.Number.{numberOf}
 use Rattle.ledger.specs.Does.{Settled, Does}
 use Rattle.patterns.specs.AddPattern.{followsLast, isFine, refusalOf, Turned}
 use Rattle.ledger.proofs.Settling.{refused, goes-on-does}
@@ -61,18 +62,18 @@ module _ (book : Book) (letter year : ℕ) (paid incurred : List ℕ) (sound : S
   first-is slots = rw (declared-is book slots letter line here, line-is book slots letter, ← here, follows-is slots letter line year)
 
   module _ (slots : List ℕ) (r : Outcome) where
-    pub undeclared : line .declared ≡ false → r ≡ refusedOf book refusal.Declared → Settled (view book slots) call slots r slots
-    undeclared d er = refused book refusal.Declared (firstNo (bookQuestions (view book slots) call)) call slots r (first-is slots ∙ rw d) er
+    pub undeclared : line .declared ≡ false → r ≡ refusedOf book refusal.NotDeclared → Settled (view book slots) call slots r slots
+    undeclared d er = refused book refusal.NotDeclared (firstNo (bookQuestions (view book slots) call)) call slots r (first-is slots ∙ rw d) er
 
     module _ (d : line .declared ≡ true) (rate : YearRate) (erate : yearRate rate ≡ ratesOf (book .rates) year) where
-      pub unrated : rate ≡ year-rate.Missing → r ≡ refusedOf book refusal.Rate → Settled (view book slots) call slots r slots
+      pub unrated : rate ≡ year-rate.Missing → r ≡ refusedOf book refusal.NoRate → Settled (view book slots) call slots r slots
       unrated e er =
-          refused book refusal.Rate (firstNo (bookQuestions (view book slots) call)) call slots r (first-is slots ∙ rw (d, ← erate, e)) er
+          refused book refusal.NoRate (firstNo (bookQuestions (view book slots) call)) call slots r (first-is slots ∙ rw (d, ← erate, e)) er
 
       module _ (number : Rate) (e : rate ≡ year-rate.Given number) (follows : Bool) (ef : follows ≡ followsLast letter line year) where
-        pub out-of-turn : follows ≡ false → r ≡ refusedOf book refusal.Turn → Settled (view book slots) call slots r slots
+        pub out-of-turn : follows ≡ false → r ≡ refusedOf book refusal.OutOfTurn → Settled (view book slots) call slots r slots
         out-of-turn f er =
-            refused book refusal.Turn (firstNo (bookQuestions (view book slots) call)) call slots r (first-is slots ∙ rw (← ef, f, ← erate, e, d)) er
+            refused book refusal.OutOfTurn (firstNo (bookQuestions (view book slots) call)) call slots r (first-is slots ∙ rw (← ef, f, ← erate, e, d)) er
 
   pub turned : line .declared ≡ true → (rate : YearRate) → yearRate rate ≡ ratesOf (book .rates) year → (number : Rate) → rate ≡ year-rate.Given number → (follows : Bool) → follows ≡ followsLast letter line year → follows ≡ true → Turned book line letter year (rateNumber number) paid incurred
   turned d rate erate number e follows ef f = record { sound = sound; here = here; declared = d; rated = sym erate ∙ ap yearRate e; turn = sym ef ∙ f }

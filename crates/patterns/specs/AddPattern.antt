@@ -15,8 +15,8 @@ use Rattle.payments.specs.declared.schedule.Verdict.{Verdict}
 use Rattle.payments.specs.declared.schedule.Verdict.the-variants as verdict
 use Rattle.state.specs.declared.book.Book.{Book}
 use Rattle.state.specs.declared.book.Line.{Line}
-use Rattle.ledger.specs.declared.answer.Refusal.{Refusal}
-use Rattle.ledger.specs.declared.answer.Refusal.the-variants as refusal
+use Rattle.refusal.specs.declared.Refusal.{Refusal}
+use Rattle.refusal.specs.declared.Refusal.the-variants as refusal
 use Rattle.ledger.specs.declared.answer.Outcome.{Outcome}
 use Rattle.ledger.specs.declared.answer.Answer.the-variants as answer
 use Rattle.state.specs.Rates.{ratesOf}
@@ -39,11 +39,11 @@ isFine verdict.Incurred = false
 isFine verdict.Falls = false
 
 abbrev pub refusalOf : Verdict → Refusal
-refusalOf verdict.Fine = refusal.Falls
-refusalOf verdict.Length = refusal.Count
-refusalOf verdict.Limits = refusal.Limits
-refusalOf verdict.Incurred = refusal.Incurred
-refusalOf verdict.Falls = refusal.Falls
+refusalOf verdict.Fine = refusal.RatioFalls
+refusalOf verdict.Length = refusal.WrongCount
+refusalOf verdict.Limits = refusal.OutsideLimits
+refusalOf verdict.Incurred = refusal.IncurredTooSmall
+refusalOf verdict.Falls = refusal.RatioFalls
 
 -- what an accepted one leaves
 abbrev pub patternOutcome : Book → Line → ℕ → ℕ → List ℕ → ℕ → Outcome

@@ -6,12 +6,12 @@ use kinds::year::is_year;
 use ledger::accept::accept;
 use ledger::answer::Answer;
 use ledger::answer::Outcome;
-use ledger::answer::Refusal;
 use ledger::refuse::refuse;
 use letters::letter::ages;
 use letters::letter::is_covered;
 use money::amount::Amount;
 use payments::schedule::Verdict;
+use refusal::Refusal;
 use state::book::Book;
 use state::book::Line;
 use state::book::Patterns;
@@ -52,11 +52,11 @@ pub fn add_pattern(
             if has_limits(year, paid, incurred) {
                 return ask_declared(book, patterns, letter, year, paid, incurred);
             }
-            return refuse(book, Refusal::Limits);
+            return refuse(book, Refusal::OutsideLimits);
         }
-        return refuse(book, Refusal::Count);
+        return refuse(book, Refusal::WrongCount);
     }
-    refuse(book, Refusal::Letter)
+    refuse(book, Refusal::UncoveredLetter)
 }
 
 // "4. Is the count of fields right?": a number for each age in each list.
@@ -90,14 +90,14 @@ fn ask_declared(
     if line.declared {
         let given = rate_of(book, year);
         let YearRate::Given(rate) = given else {
-            return refuse(book, Refusal::Rate);
+            return refuse(book, Refusal::NoRate);
         };
         if follows_last(letter, line, year) {
             return ask_ratios(book, patterns, line, letter, year, rate, paid, incurred);
         }
-        return refuse(book, Refusal::Turn);
+        return refuse(book, Refusal::OutOfTurn);
     }
-    refuse(book, Refusal::Declared)
+    refuse(book, Refusal::NotDeclared)
 }
 
 // "is it the line's first pattern, or the year after its last one, that last one closed if any year is closed?"
@@ -166,11 +166,11 @@ fn refusal_of(verdict: Verdict) -> Refusal
     ensures { λ r. ⌜ r ≡ refusalOf verdict ⌝ }
 {
     match verdict {
-        Verdict::Fine => Refusal::Falls,
-        Verdict::Length => Refusal::Count,
-        Verdict::Limits => Refusal::Limits,
-        Verdict::Incurred => Refusal::Incurred,
-        Verdict::Falls => Refusal::Falls,
+        Verdict::Fine => Refusal::RatioFalls,
+        Verdict::Length => Refusal::WrongCount,
+        Verdict::Limits => Refusal::OutsideLimits,
+        Verdict::Incurred => Refusal::IncurredTooSmall,
+        Verdict::Falls => Refusal::RatioFalls,
     }
 }
 

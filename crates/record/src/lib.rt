@@ -3,5 +3,5 @@ mod column;
 mod gather;
 mod limits;
 pub mod read;
-mod refusal;
+mod refused_request;
 pub mod request;

@@ -3,7 +3,7 @@ use crate::column::by_age;
 use crate::column::by_row;
 use crate::column::months;
 use crate::column::payments;
-use crate::refusal::refused;
+use crate::refused_request::refused;
 use crate::request::Request;
 use crate::request::Verdict;
 use form::word::Word;

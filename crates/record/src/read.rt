@@ -1,7 +1,7 @@
 // "Questions put to a record, in this order": 1 to 6, each function with the rest of them.
 use crate::gather::gather;
 use crate::limits::judge;
-use crate::refusal::refused;
+use crate::refused_request::refused;
 use crate::request::Request;
 use crate::request::Verdict;
 use field::field::count;

@@ -5,8 +5,8 @@ use Rattle.answer.proofs.Lines.{refusal-put}
 use Rattle.answer.proofs.text.put_refusal.Statement.{statement}
 use Rattle.answer.proofs.text.put_refusal.Tie as tie
 
-number-of-requires : tie.Need-number-of-requires
-number-of-requires c κs = search needs
+number-requires : tie.Need-number-requires
+number-requires c κs = search needs
 
 slice-aggregate-put : tie.Need-slice-aggregate-put
 slice-aggregate-put c = search needs
@@ -30,7 +30,7 @@ pub put-refusal-spec : {M : Type 1} → statement M
 put-refusal-spec =
     tie.close
     (tie.spec
-    number-of-requires
+    number-requires
     slice-aggregate-put
     put-requires
     put-number-requires

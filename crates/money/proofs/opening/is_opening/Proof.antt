@@ -1,8 +1,24 @@
 -- `money::opening::is_opening` meets its contract. Assumes nothing.
+use mathlib.Core.Bool.{Bool, true, false}
+use mathlib.Core.Path.{_≡_, refl, sym, ap, _∙_}
 use borrow.Author.Needs.{needs}
-use Rattle.money.proofs.Within.{opening-within, opening-outside}
+use Rattle.model.specs.Basics.{if_then_else_}
+use Rattle.money.specs.declared.opening.Opening.{Opening}
+use Rattle.money.specs.declared.opening.MaybeOpening.{MaybeOpening}
+use Rattle.money.specs.declared.opening.MaybeOpening.the-variants.{Within, Outside}
+use Rattle.kinds.proofs.Within.{told-by}
 use Rattle.money.proofs.opening.is_opening.Statement.{statement}
 use Rattle.money.proofs.opening.is_opening.Tie as tie
+
+abbrev told : MaybeOpening → Bool
+told (Within value) = true
+told Outside = false
+
+within : (p : Bool) (w a : Opening) (x : MaybeOpening) → x ≡ (if p then Within w else Outside) → x ≡ Within a → true ≡ p
+within p w a x ex e = sym (ap told e) ∙ told-by told (Within w) Outside refl refl p x ex
+
+outside : (p : Bool) (w : Opening) (x : MaybeOpening) → x ≡ (if p then Within w else Outside) → x ≡ Outside → false ≡ p
+outside p w x ex e = sym (ap told e) ∙ told-by told (Within w) Outside refl refl p x ex
 
 new-requires : tie.Need-new-requires
 new-requires c κs = search needs
@@ -14,10 +30,10 @@ enum-told-2 : tie.Need-enum-told-2
 enum-told-2 c = search needs
 
 returns : tie.Need-returns
-returns c = search opening-within
+returns c = search within
 
 returns-2 : tie.Need-returns-2
-returns-2 c = search opening-outside
+returns-2 c = search outside
 
 pub is-opening-spec : {M : Type 1} → statement M
 is-opening-spec = tie.close (tie.spec new-requires enum-told enum-told-2 returns returns-2)
