@@ -17,7 +17,7 @@ use Rattle.model.specs.Composite.{mean, composite}
 use Rattle.model.proofs.Lists.{sum-append}
 use Rattle.model.proofs.HalfYear.{half-year-small}
 use Rattle.model.proofs.Ages.{at-age, length-factors}
-use Rattle.payments.specs.declared.schedule.Verdict.the-variants.{Fine}
+use Rattle.refusal.specs.declared.Verdict.the-variants.{Fine}
 use Rattle.payments.specs.Schedule.{allAges}
 use Rattle.factor.specs.Composite.{Averaged}
 use Rattle.factor.specs.Walk.{Walkable, Walked}

@@ -4,8 +4,9 @@ use crate::walk::walk;
 use half_year::half_year;
 use kinds::rate::Rate;
 use letters::letter;
-use payments::schedule::Verdict;
 use payments::schedule::schedule_of;
+use refusal::Refusal;
+use refusal::Verdict;
 ghost use mathlib.Core.Path.{_≡_};
 ghost use mathlib.Core.Bool.{true, false};
 ghost use mathlib.Core.List.{_++_};
@@ -30,18 +31,20 @@ pub fn discount(letter: u8, rate: Rate, paid: &[u64], incurred: &[u64]) -> Patte
 {
     let schedule = schedule_of(letter, paid, incurred);
     let verdict = schedule.verdict;
-    let Verdict::Fine = verdict else {
-        return refuse(verdict);
-    };
-    let pay = schedule.pay;
-    keep(letter, rate, pay)
+    match verdict {
+        Verdict::Fine => {
+            let pay = schedule.pay;
+            keep(letter, rate, pay)
+        }
+        Verdict::Refused(refusal) => refuse(refusal),
+    }
 }
 
-fn refuse(verdict: Verdict) -> Pattern
-    ensures { λ r. ⌜ r ≡ refused verdict ⌝ }
+fn refuse(refusal: Refusal) -> Pattern
+    ensures { λ r. ⌜ r ≡ refused refusal ⌝ }
 {
     Pattern {
-        verdict,
+        verdict: Verdict::Refused(refusal),
         factors: [0; 10],
         composite: 0,
     }

@@ -9,8 +9,6 @@ use native.Mathlib.Omega.{arith}
 use borrow.Author.Tests.{eqb-true}
 use lib.Dec.{eqb}
 use lib.ListN.{length}
-use denote.Enum.Declared.{tagOf}
-use types.Run.{OneOf, miss}
 use Rattle.model.specs.Basics.{if_then_else_, given, all}
 use Rattle.model.specs.Kind.{isRate, isYear}
 use Rattle.model.specs.Rate.{rateOf}
@@ -20,12 +18,12 @@ use Rattle.model.specs.Step.{asNumbers, accept}
 use Rattle.model.proofs.Lists.{and-left}
 use Rattle.kinds.specs.declared.rate.Rate.{Rate}
 use Rattle.kinds.specs.Rate.{rateNumber}
-use Rattle.rates.specs.Rate.{meanOf}
+use Rattle.rates.specs.Rate.{meanBy, meanOf}
 use Rattle.rates.specs.declared.rate.Mean.{Mean}
-use Rattle.rates.proofs.rate.Mean.{the-type}
 use Rattle.rates.specs.declared.rate.Mean.the-variants as mean
 use Rattle.rates.proofs.Totals.{sum-small}
 use Rattle.state.specs.declared.book.Book.{Book}
+use Rattle.refusal.specs.Number.{refusalOf}
 use Rattle.refusal.specs.declared.Refusal.{Refusal}
 use Rattle.refusal.specs.declared.Refusal.the-variants as refusal
 use Rattle.ledger.specs.declared.answer.Answer.the-variants as answer
@@ -36,28 +34,18 @@ use Rattle.state.specs.Rates.{ratesOf, yearRate, withRateOf}
 use Rattle.state.specs.View.{view}
 use Rattle.ledger.specs.Answer.{nothing, refusedOf, acceptedOf}
 use Rattle.ledger.specs.Does.{slotsAfter, SettledAnyhow, DoesAnyhow}
-use Rattle.ledger.specs.SetRate.{refusalOf, Averaged}
+use Rattle.ledger.specs.SetRate.{Averaged}
 use Rattle.ledger.proofs.Settling.{refused, count-refused, limits-refused, goes-on-anyhow}
 use Rattle.state.proofs.RatePlaces.{rates-put}
 
 -- a mean by its two tests
-abbrev by-tests : Bool → Bool → Rate → Mean
-by-tests a b rate = if a then (if b then mean.Is rate else mean.Limits) else mean.Length
+abbrev by-tests : Bool → Bool → ℕ → Mean
+by-tests a b rate = meanBy (firstNo ((4, a) ∷ (6, b) ∷ [])) rate
 
-is-rate : (a b : Bool) (w rate : Rate) → by-tests a b w ≡ mean.Is rate → (a ≡ true) × (b ≡ true) × (rate ≡ w)
-is-rate true true w rate e = (refl, refl, cc)
-is-rate true false w rate e = let z : _≡_ {A = ℕ} 0 1 = cc in absurd (omega arith)
-is-rate false b w rate e = let z : _≡_ {A = ℕ} 0 1 = cc in absurd (omega arith)
-
-is-length : (a b : Bool) (w : Rate) → by-tests a b w ≡ mean.Length → a ≡ false
-is-length true true w e = let z : _≡_ {A = ℕ} 0 1 = cc in absurd (omega arith)
-is-length true false w e = let z : _≡_ {A = ℕ} 0 1 = cc in absurd (omega arith)
-is-length false b w e = refl
-
-is-limits : (a b : Bool) (w : Rate) → by-tests a b w ≡ mean.Limits → (a ≡ true) × (b ≡ false)
-is-limits true true w e = let z : _≡_ {A = ℕ} 0 1 = cc in absurd (omega arith)
-is-limits true false w e = (refl, refl)
-is-limits false b w e = let z : _≡_ {A = ℕ} 0 1 = cc in absurd (omega arith)
+is-rate : (a b : Bool) (n : ℕ) (rate : Rate) → by-tests a b n ≡ mean.Is rate → (a ≡ true) × (b ≡ true) × (rate ≡ record { value = n })
+is-rate true true n rate e = (refl, refl, cc)
+is-rate true false n rate e = let z : _≡_ {A = ℕ} 0 1 = cc in absurd (omega arith)
+is-rate false b n rate e = let z : _≡_ {A = ℕ} 0 1 = cc in absurd (omega arith)
 
 and-false : (a b : Bool) → b ≡ false → (a && b) ≡ false
 and-false true b e = e
@@ -71,12 +59,9 @@ module _ (year : ℕ) (months : List ℕ) (m : Mean) (em : m ≡ meanOf months) 
   abbrev rates : Bool
   rates = all isRate months
 
-  abbrev rate-of-months : Rate
-  rate-of-months = record { value = rateOf months }
-
   module _ (rate : Rate) (e : m ≡ mean.Is rate) (limited : Bool) (ey : limited ≡ isYear year) where
-    tests : (sixty ≡ true) × (rates ≡ true) × (rate ≡ rate-of-months)
-    tests = is-rate sixty rates rate-of-months rate (sym em ∙ e)
+    tests : (sixty ≡ true) × (rates ≡ true) × (rate ≡ record { value = rateOf months })
+    tests = is-rate sixty rates (rateOf months) rate (sym em ∙ e)
 
     small : rateOf months ≤ 2500
     small = omega (arith, sum-small months (tests .1), eqb-true (length months) 60 (tests .0))
@@ -94,19 +79,16 @@ module _ (year : ℕ) (months : List ℕ) (m : Mean) (em : m ≡ meanOf months) 
     pub year-refused : limited ≡ false → (book : Book) (r : Outcome) → r ≡ refusedOf book refusal.OutsideLimits → DoesAnyhow book (asNumbers (setRate year months)) r
     year-refused y book r er = limits-refused book (setRate year months) r true refl refl sixty refl (tests .0) (isWithinLimits (setRate year months)) refl (rw (← ey, y)) er
 
-  months-counted : m ≡ mean.Length → (book : Book) (r : Outcome) → r ≡ refusedOf book refusal.WrongCount → DoesAnyhow book (asNumbers (setRate year months)) r
-  months-counted e book r er = count-refused book (setRate year months) r true refl refl sixty refl (is-length sixty rates rate-of-months (sym em ∙ e)) er
+  -- where there is no rate
+  by-first : (a b : Bool) → sixty ≡ a → rates ≡ b → (question : Refusal) → by-tests a b (rateOf months) ≡ mean.Refused question → (book : Book) (r : Outcome) → r ≡ refusedOf book question → DoesAnyhow book (asNumbers (setRate year months)) r
+  unfolding refusalOf
+  by-first true true ea eb question e book r er = let z : _≡_ {A = ℕ} 0 1 = cc in absurd (omega arith)
+  by-first true false ea eb question e book r er =
+      limits-refused book (setRate year months) r true refl refl sixty refl ea (isWithinLimits (setRate year months)) refl (and-false (isYear year) rates eb) (er ∙ ap (refusedOf book) (cc))
+  by-first false b ea eb question e book r er = count-refused book (setRate year months) r true refl refl sixty refl ea (er ∙ ap (refusedOf book) (cc))
 
-  months-limited : m ≡ mean.Limits → (book : Book) (r : Outcome) → r ≡ refusedOf book refusal.OutsideLimits → DoesAnyhow book (asNumbers (setRate year months)) r
-  months-limited e book r er =
-      let t = is-limits sixty rates rate-of-months (sym em ∙ e) in
-      limits-refused book (setRate year months) r true refl refl sixty refl (t .0) (isWithinLimits (setRate year months)) refl (and-false (isYear year) rates (t .1)) er
-
--- as code finds it where there is no rate
-pub months-refused : (year : ℕ) (months : List ℕ) (m : Mean) → m ≡ meanOf months → OneOf (1 ∷ 2 ∷ []) (tagOf the-type m) → (question : Refusal) → question ≡ refusalOf m → (book : Book) (r : Outcome) → r ≡ refusedOf book question → DoesAnyhow book (asNumbers (setRate year months)) r
-months-refused year months (mean.Is rate) em told question eq book r er = absurd (miss (1 ∷ 2 ∷ []) 0 tt told)
-months-refused year months mean.Length em told question eq book r er = months-counted year months mean.Length em refl book r (er ∙ rw eq)
-months-refused year months mean.Limits em told question eq book r er = months-limited year months mean.Limits em refl book r (er ∙ rw eq)
+  pub months-refused : (question : Refusal) → m ≡ mean.Refused question → (book : Book) (r : Outcome) → r ≡ refusedOf book question → DoesAnyhow book (asNumbers (setRate year months)) r
+  months-refused question e = by-first sixty rates refl refl question (sym em ∙ e)
 
 -- question 7
 set-year : (year rate : ℕ) (months : List ℕ) → Averaged year rate months → isYear year ≡ true

@@ -17,30 +17,21 @@ ghost use Rattle.model.specs.Call.{setRate};
 ghost use Rattle.model.specs.Step.{asNumbers};
 ghost use Rattle.kinds.specs.Rate.{rateNumber};
 ghost use Rattle.ledger.specs.Does.{SettledAnyhow, DoesAnyhow};
-ghost use Rattle.ledger.specs.SetRate.{refusalOf, Averaged};
+ghost use Rattle.ledger.specs.SetRate.{Averaged};
 
 // Questions 4 and 6, and on.
 pub fn set_rate(book: Book, year: u64, months: &[u64]) -> Outcome
     ensures { λ r. ⌜ DoesAnyhow book (asNumbers (setRate year (now (months .entry)))) r ⌝ }
 {
     let mean = mean_rate(months);
-    let Mean::Is(rate) = mean else {
-        return refuse(book, refusal_of(mean));
-    };
-    if is_year(year) {
-        return ask_given(book, year, rate, months);
-    }
-    refuse(book, Refusal::OutsideLimits)
-}
-
-// The question about the months that is answered no. (It is not asked for where none is.)
-fn refusal_of(mean: Mean) -> Refusal
-    ensures { λ r. ⌜ r ≡ refusalOf mean ⌝ }
-{
     match mean {
-        Mean::Is(_) => Refusal::OutsideLimits,
-        Mean::Length => Refusal::WrongCount,
-        Mean::Limits => Refusal::OutsideLimits,
+        Mean::Is(rate) => {
+            if is_year(year) {
+                return ask_given(book, year, rate, months);
+            }
+            refuse(book, Refusal::OutsideLimits)
+        }
+        Mean::Refused(refusal) => refuse(book, refusal),
     }
 }
 

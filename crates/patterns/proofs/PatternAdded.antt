@@ -18,6 +18,7 @@ use Rattle.model.specs.Call.{addPattern}
 use Rattle.model.specs.Step.{accept}
 use Rattle.model.proofs.Lists.{and-left, and-right}
 use Rattle.model.proofs.Ages.{ages-small, length-ages-of, schedule-sized, kept-count}
+use Rattle.refusal.specs.declared.Verdict.the-variants.{Fine}
 use Rattle.factor.specs.declared.pattern.Pattern.{Pattern}
 use Rattle.factor.specs.Pattern.{patternOf}
 use Rattle.state.specs.declared.book.Book.{Book}
@@ -26,7 +27,7 @@ use Rattle.ledger.specs.declared.answer.Outcome.{Outcome}
 use Rattle.state.specs.Patterns.{slotOf, withPatternOf, written}
 use Rattle.state.specs.View.{view}
 use Rattle.ledger.specs.Does.{slotsAfter, Settled}
-use Rattle.patterns.specs.AddPattern.{isFine, patternOutcome, Turned}
+use Rattle.patterns.specs.AddPattern.{patternOutcome, Turned}
 use Rattle.state.proofs.Views.{line-is, lines-put}
 use Rattle.state.proofs.KeptPatterns.{beside, pattern-kept, numbers-are}
 use Rattle.patterns.proofs.Publishing.{published-whole, published-factors, published-composite}
@@ -46,12 +47,12 @@ module _ (book : Book) (line : Line) (letter year rate : ℕ) (paid incurred : L
   is-year : isYear year ≡ true
   is-year = and-left (isYear year) (all isAmount paid) (and-left (isYear year && all isAmount paid) (all isAmount incurred) (pre .sound .limits))
 
-  pub pattern-added : (pattern : Pattern) → pattern ≡ patternOf letter rate paid incurred → (t : Bool) → t ≡ isFine (pattern .verdict) → t ≡ true → (slots : List ℕ) → length slots ≡ 1650 → length (book .lines) ≡ 15
+  pub pattern-added : (pattern : Pattern) → pattern ≡ patternOf letter rate paid incurred → pattern .verdict ≡ Fine → (slots : List ℕ) → length slots ≡ 1650 → length (book .lines) ≡ 15
       → (r : Outcome) → r ≡ patternOutcome book line letter year (pattern .factors) (pattern .composite) → (later : List ℕ) → later ≡ written slots (slotOf letter year) (pattern .factors ++ (pattern .composite ∷ []))
       → Settled (view book slots) (addPattern letter year paid incurred) slots r later
   unfolding accept slotsAfter
-  pattern-added pattern ep t et fine slots places lines r er later el =
-      let p = passes book line letter year rate paid incurred pre pattern ep t et fine slots in
+  pattern-added pattern ep fine slots places lines r er later el =
+      let p = passes book line letter year rate paid incurred pre pattern ep fine slots in
       let kept : List ℕ = keptFactors letter rate pay in
       let prior : ℕ = composite letter rate pay in
       rw (p .0, er, el, p .1)

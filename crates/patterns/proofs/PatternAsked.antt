@@ -1,28 +1,24 @@
 -- PATT: its questions, and what an accepted one leaves.
 -- Assumes nothing.
 use mathlib.Core.Bool.{Bool, true, false, _&&_}
-use mathlib.Core.List.{List}
+use mathlib.Core.List.{List, [], _∷_}
 use mathlib.Core.Path.{_≡_, refl, sym, ap, _∙_}
-use mathlib.Core.Option.{none, some}
+use mathlib.Core.Option.{Option, none, some}
 use Prim.Native.Nat.{ℕ}
 use native.Mathlib.Omega.{arith}
 use Rattle.model.specs.Basics.{if_then_else_, given, all}
 use Rattle.model.specs.Kind.{isYear, isAmount}
 use Rattle.model.specs.Letter.{covered}
-use Rattle.model.specs.Pattern.{agesOf}
+use Rattle.model.specs.Pattern.{Age, agesOf}
 use Rattle.model.specs.Tail.{schedule}
 use Rattle.model.specs.Call.{Call, addPattern}
 use Rattle.model.specs.Question.{Sound, hasLengths, isWithinLimits, hasIncurred, climbs, bookQuestions, firstNo}
 use Rattle.model.specs.Step.{asNumbers}
-use Rattle.model.proofs.Lists.{true≢false}
 use Rattle.kinds.specs.declared.rate.Rate.{Rate}
 use Rattle.kinds.specs.Rate.{rateNumber}
-use Rattle.payments.specs.declared.schedule.Verdict.the-variants as verdict
+use Rattle.refusal.specs.declared.Verdict.the-variants as verdict
 use Rattle.factor.specs.declared.pattern.Pattern.{Pattern}
-use Rattle.factor.specs.Pattern as factor
-use Rattle.payments.specs.declared.schedule.Schedule.{Schedule}
-use Rattle.payments.specs.Schedule as payments
-use Rattle.payments.specs.Schedule.{inPlaces}
+use Rattle.payments.specs.Schedule.{scheduleBy}
 use Rattle.factor.specs.Pattern.{keptOf, patternBy, patternOf}
 use Rattle.state.specs.declared.book.Book.{Book}
 use Rattle.state.specs.declared.book.Line.{Line}
@@ -35,9 +31,9 @@ use Rattle.state.specs.Rates.{ratesOf, yearRate}
 use Rattle.state.specs.Lines.{lineAt}
 use Rattle.state.specs.View.{view}
 use Rattle.ledger.specs.Answer.{refusedOf}
-use Rattle.refusal.specs.Number.{numberOf}
+use Rattle.refusal.specs.Number.{numberOf, refusalOf}
 use Rattle.ledger.specs.Does.{Settled, Does}
-use Rattle.patterns.specs.AddPattern.{followsLast, isFine, refusalOf, Turned}
+use Rattle.patterns.specs.AddPattern.{followsLast, Turned}
 use Rattle.ledger.proofs.Settling.{refused, goes-on-does}
 use Rattle.state.proofs.Views.{line-is, declared-is}
 use Rattle.patterns.proofs.Turns.{follows-is}
@@ -79,24 +75,19 @@ module _ (book : Book) (letter year : ℕ) (paid incurred : List ℕ) (sound : S
   turned d rate erate number e follows ef f = record { sound = sound; here = here; declared = d; rated = sym erate ∙ ap yearRate e; turn = sym ef ∙ f }
 
 -- questions 11 and 12, by what `discount` answers
-abbrev judged : Bool → Bool → Pattern → Pattern
-judged a b p = if a then (if b then p else factor.refused verdict.Falls) else factor.refused verdict.Incurred
+abbrev first-of : Bool → Bool → Option ℕ
+first-of a b = firstNo ((11, a) ∷ (12, b) ∷ [])
 
-judged-fine : (a b : Bool) (p : Pattern) → isFine (judged a b p .verdict) ≡ true → (a ≡ true) × (b ≡ true)
-judged-fine true true p e = (refl, refl)
-judged-fine true false p e = absurd (true≢false (sym e))
-judged-fine false b p e = absurd (true≢false (sym e))
+judged-fine : (a b : Bool) (letter : ℕ) (given : List Age) (p : Pattern) → patternBy (scheduleBy (first-of a b) letter given .verdict) p .verdict ≡ verdict.Fine → (a ≡ true) × (b ≡ true)
+judged-fine true true letter given p e = (refl, refl)
+judged-fine true false letter given p e = let z : _≡_ {A = ℕ} 0 1 = cc in absurd (omega arith)
+judged-fine false b letter given p e = let z : _≡_ {A = ℕ} 0 1 = cc in absurd (omega arith)
 
-judged-refused : (a b : Bool) (p : Pattern) → p .verdict ≡ verdict.Fine → isFine (judged a b p .verdict) ≡ false → (if a then (if b then none else some 12) else some 11) ≡ some (numberOf (refusalOf (judged a b p .verdict)))
-judged-refused true true p f e = absurd (true≢false (rw f at e))
-judged-refused true false p f e = refl
-judged-refused false b p f e = refl
-
--- the schedule's verdict is that of the two questions
-by-judged : (a b : Bool) (s : Schedule) (p : Pattern) → s .verdict ≡ verdict.Fine → patternBy ((if a then (if b then s else payments.refused verdict.Falls) else payments.refused verdict.Incurred) .verdict) p ≡ judged a b p
-by-judged true true s p e = rw e
-by-judged true false s p e = refl
-by-judged false b s p e = refl
+judged-refused : (a b : Bool) (letter : ℕ) (given : List Age) (p : Pattern) → p .verdict ≡ verdict.Fine → (question : Refusal) → patternBy (scheduleBy (first-of a b) letter given .verdict) p .verdict ≡ verdict.Refused question → first-of a b ≡ some (numberOf question)
+unfolding refusalOf
+judged-refused true true letter given p f question e = let z : _≡_ {A = ℕ} 0 1 = cc in absurd (omega arith)
+judged-refused true false letter given p f question e = let same : refusal.RatioFalls ≡ question = cc in ap (λ (q : Refusal). some (numberOf q)) same
+judged-refused false b letter given p f question e = let same : refusal.IncurredTooSmall ≡ question = cc in ap (λ (q : Refusal). some (numberOf q)) same
 
 amounts : (y a b : Bool) → (y && a && b) ≡ true → (a && b) ≡ true
 amounts true a b e = e
@@ -109,21 +100,18 @@ module _ (book : Book) (line : Line) (letter year rate : ℕ) (paid incurred : L
   abbrev fine : Pattern
   fine = keptOf letter rate (schedule letter (agesOf paid incurred))
 
-  pattern-is : pattern ≡ judged (hasIncurred asks) (climbs asks) fine
-  pattern-is =
-      ep ∙ rw (pre .sound .lengths, amounts (isYear year) (all isAmount paid) (all isAmount incurred) (pre .sound .limits))
-      (by-judged (hasIncurred asks) (climbs asks) (record { verdict = verdict.Fine; pay = inPlaces letter (schedule letter (agesOf paid incurred)) }) fine refl)
+  pattern-is : pattern ≡ patternBy (scheduleBy (first-of (hasIncurred asks) (climbs asks)) letter (agesOf paid incurred) .verdict) fine
+  pattern-is = ep ∙ rw (pre .sound .lengths, amounts (isYear year) (all isAmount paid) (all isAmount incurred) (pre .sound .limits))
 
-  first-of-two : (slots : List ℕ) → firstNo (bookQuestions (view book slots) asks) ≡ (if hasIncurred asks then (if climbs asks then none else some 12) else some 11)
+  first-of-two : (slots : List ℕ) → firstNo (bookQuestions (view book slots) asks) ≡ first-of (hasIncurred asks) (climbs asks)
   first-of-two slots = first-is book letter year paid incurred (pre .sound) line (pre .here) slots ∙ rw (pre .turn, pre .rated, pre .declared)
 
-  module _ (t : Bool) (et : t ≡ isFine (pattern .verdict)) where
-    pub passes : t ≡ true → (slots : List ℕ) → (firstNo (bookQuestions (view book slots) asks) ≡ none) × (pattern ≡ fine)
-    passes e slots =
-        let both = judged-fine (hasIncurred asks) (climbs asks) fine (rw pattern-is at (sym et ∙ e)) in
-        (first-of-two slots ∙ rw (both .0, both .1), pattern-is ∙ rw (both .0, both .1))
+  pub passes : pattern .verdict ≡ verdict.Fine → (slots : List ℕ) → (firstNo (bookQuestions (view book slots) asks) ≡ none) × (pattern ≡ fine)
+  passes e slots =
+      let both = judged-fine (hasIncurred asks) (climbs asks) letter (agesOf paid incurred) fine (rw pattern-is at e) in
+      (first-of-two slots ∙ rw (both .0, both .1), pattern-is ∙ rw (both .0, both .1))
 
-    pub ratios-refused : t ≡ false → (slots : List ℕ) (question : Refusal) → question ≡ refusalOf (pattern .verdict) → (r : Outcome) → r ≡ refusedOf book question → Settled (view book slots) asks slots r slots
-    ratios-refused e slots question eq r er =
-        refused book question (firstNo (bookQuestions (view book slots) asks)) asks slots r
-        (first-of-two slots ∙ judged-refused (hasIncurred asks) (climbs asks) fine refl (rw pattern-is at (sym et ∙ e)) ∙ rw (eq, pattern-is)) er
+  pub ratios-refused : (question : Refusal) → pattern .verdict ≡ verdict.Refused question → (slots : List ℕ) (r : Outcome) → r ≡ refusedOf book question → Settled (view book slots) asks slots r slots
+  ratios-refused question e slots r er =
+      refused book question (firstNo (bookQuestions (view book slots) asks)) asks slots r
+      (first-of-two slots ∙ judged-refused (hasIncurred asks) (climbs asks) letter (agesOf paid incurred) fine refl question (rw pattern-is at e)) er

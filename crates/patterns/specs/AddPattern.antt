@@ -11,12 +11,8 @@ use Rattle.model.specs.Kind.{isYear}
 use Rattle.model.specs.Published.{published}
 use Rattle.model.specs.Call.{addPattern}
 use Rattle.model.specs.Question.{Sound}
-use Rattle.payments.specs.declared.schedule.Verdict.{Verdict}
-use Rattle.payments.specs.declared.schedule.Verdict.the-variants as verdict
 use Rattle.state.specs.declared.book.Book.{Book}
 use Rattle.state.specs.declared.book.Line.{Line}
-use Rattle.refusal.specs.declared.Refusal.{Refusal}
-use Rattle.refusal.specs.declared.Refusal.the-variants as refusal
 use Rattle.ledger.specs.declared.answer.Outcome.{Outcome}
 use Rattle.ledger.specs.declared.answer.Answer.the-variants as answer
 use Rattle.state.specs.Rates.{ratesOf}
@@ -29,21 +25,6 @@ unfoldable pub followsLast : ℕ → Line → ℕ → Bool
 followsLast letter line year =
     if eqb (keptCount letter line) 0 then true else
     (if eqb year (line .last + 1) then (if isYear (line .closed) then eqb (line .closed) (line .last) else true) else false)
-
--- questions 11 and 12, as `discount` answers them; 4 and 6 were asked before
-abbrev pub isFine : Verdict → Bool
-isFine verdict.Fine = true
-isFine verdict.Length = false
-isFine verdict.Limits = false
-isFine verdict.Incurred = false
-isFine verdict.Falls = false
-
-abbrev pub refusalOf : Verdict → Refusal
-refusalOf verdict.Fine = refusal.RatioFalls
-refusalOf verdict.Length = refusal.WrongCount
-refusalOf verdict.Limits = refusal.OutsideLimits
-refusalOf verdict.Incurred = refusal.IncurredTooSmall
-refusalOf verdict.Falls = refusal.RatioFalls
 
 -- what an accepted one leaves
 abbrev pub patternOutcome : Book → Line → ℕ → ℕ → List ℕ → ℕ → Outcome

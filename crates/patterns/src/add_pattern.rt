@@ -10,8 +10,8 @@ use ledger::refuse::refuse;
 use letters::letter::ages;
 use letters::letter::is_covered;
 use money::amount::Amount;
-use payments::schedule::Verdict;
 use refusal::Refusal;
+use refusal::Verdict;
 use state::book::Book;
 use state::book::Line;
 use state::book::Patterns;
@@ -34,7 +34,7 @@ ghost use Rattle.kinds.specs.Rate.{rateNumber};
 ghost use Rattle.state.specs.View.{view};
 ghost use Rattle.ledger.specs.Does.{Does, Settled};
 ghost use Rattle.state.specs.Patterns.{slotOf, withPatternOf, written};
-ghost use Rattle.patterns.specs.AddPattern.{followsLast, isFine, refusalOf, patternOutcome, Turned};
+ghost use Rattle.patterns.specs.AddPattern.{followsLast, patternOutcome, Turned};
 
 // Questions 3, 4 and 6, and on.
 pub fn add_pattern(
@@ -133,44 +133,13 @@ fn ask_ratios(
 {
     let pattern = discount(letter, rate, paid, incurred);
     let verdict = pattern.verdict;
-    if is_fine(verdict) {
-        let factors = pattern.factors;
-        return keep_pattern(
-            book,
-            patterns,
-            line,
-            letter,
-            year,
-            factors,
-            pattern.composite,
-        );
-    }
-    refuse(book, refusal_of(verdict))
-}
-
-// Is no question about the lists answered no?
-fn is_fine(verdict: Verdict) -> bool
-    ensures { λ r. ⌜ r ≡ isFine verdict ⌝ }
-{
     match verdict {
-        Verdict::Fine => true,
-        Verdict::Length => false,
-        Verdict::Limits => false,
-        Verdict::Incurred => false,
-        Verdict::Falls => false,
-    }
-}
-
-// The question about the lists that is answered no. (It is not asked for where none is.)
-fn refusal_of(verdict: Verdict) -> Refusal
-    ensures { λ r. ⌜ r ≡ refusalOf verdict ⌝ }
-{
-    match verdict {
-        Verdict::Fine => Refusal::RatioFalls,
-        Verdict::Length => Refusal::WrongCount,
-        Verdict::Limits => Refusal::OutsideLimits,
-        Verdict::Incurred => Refusal::IncurredTooSmall,
-        Verdict::Falls => Refusal::RatioFalls,
+        Verdict::Fine => {
+            let factors = pattern.factors;
+            let composite = pattern.composite;
+            keep_pattern(book, patterns, line, letter, year, factors, composite)
+        }
+        Verdict::Refused(refusal) => refuse(book, refusal),
     }
 }
 

@@ -15,7 +15,9 @@ use Rattle.model.specs.Tail.{tenYearTail, twoYearTail, schedule}
 use Rattle.model.specs.Question.{isIncurred}
 use Rattle.model.proofs.Ages.{ages-small}
 use Rattle.payments.specs.declared.schedule.Schedule.{Schedule}
-use Rattle.payments.specs.declared.schedule.Verdict.the-variants.{Fine, Length, Limits, Incurred, Falls}
+use Rattle.refusal.specs.Number.{refusalOf}
+use Rattle.refusal.specs.declared.Refusal.the-variants.{WrongCount, OutsideLimits, IncurredTooSmall, RatioFalls}
+use Rattle.refusal.specs.declared.Verdict.the-variants.{Fine}
 use Rattle.payments.specs.Payment.{Paired, Payable, Paid}
 use Rattle.payments.specs.Schedule.{refused, judgedOf, scheduleOf, Listed, inPlaces, tailed}
 
@@ -64,23 +66,29 @@ pub judged-fine : (letter : ℕ) (paid incurred : List ℕ) (climbs : Bool) (pay
 judged-fine letter paid incurred climbs pay all-pay last t g s q11 e = rw (q11, sym (s .climbing) ∙ t, e, schedule-is letter paid incurred pay last climbs t g s)
 
 module _ (letter : ℕ) (paid incurred : List ℕ) (r : Schedule) where
-  pub judged-falls : (climbs : Bool) (pay : List ℕ) (last : ℕ) → climbs ≡ false → Paid paid incurred climbs pay last → all isIncurred (agesOf paid incurred) ≡ true → r ≡ refused Falls → r ≡ judgedOf letter paid incurred
+  pub judged-falls : (climbs : Bool) (pay : List ℕ) (last : ℕ) → climbs ≡ false → Paid paid incurred climbs pay last → all isIncurred (agesOf paid incurred) ≡ true → r ≡ refused RatioFalls → r ≡ judgedOf letter paid incurred
+  unfolding refusalOf
   judged-falls climbs pay last t s q11 k = rw (q11, sym (s .climbing) ∙ t) k
 
-  pub judged-incurred : all isIncurred (agesOf paid incurred) ≡ false → r ≡ refused Incurred → r ≡ judgedOf letter paid incurred
+  pub judged-incurred : all isIncurred (agesOf paid incurred) ≡ false → r ≡ refused IncurredTooSmall → r ≡ judgedOf letter paid incurred
+  unfolding refusalOf
   judged-incurred q11 k = rw q11 k
 
   -- and questions 4 and 6
-  pub length-paid : (length paid ≡ ages letter → ⊥) → r ≡ refused Length → r ≡ scheduleOf letter paid incurred
+  pub length-paid : (length paid ≡ ages letter → ⊥) → r ≡ refused WrongCount → r ≡ scheduleOf letter paid incurred
+  unfolding refusalOf
   length-paid n k = rw (ne-eqb (length paid) (ages letter) n) k
 
-  pub length-incurred : length paid ≡ ages letter → (length incurred ≡ ages letter → ⊥) → r ≡ refused Length → r ≡ scheduleOf letter paid incurred
+  pub length-incurred : length paid ≡ ages letter → (length incurred ≡ ages letter → ⊥) → r ≡ refused WrongCount → r ≡ scheduleOf letter paid incurred
+  unfolding refusalOf
   length-incurred e n k = rw (eq-eqb (length paid) (ages letter) e, ne-eqb (length incurred) (ages letter) n) k
 
-  pub limits-paid : length paid ≡ ages letter → length incurred ≡ ages letter → all isAmount paid ≡ false → r ≡ refused Limits → r ≡ scheduleOf letter paid incurred
+  pub limits-paid : length paid ≡ ages letter → length incurred ≡ ages letter → all isAmount paid ≡ false → r ≡ refused OutsideLimits → r ≡ scheduleOf letter paid incurred
+  unfolding refusalOf
   limits-paid e n a k = rw (eq-eqb (length paid) (ages letter) e, eq-eqb (length incurred) (ages letter) n, a) k
 
-  pub limits-incurred : length paid ≡ ages letter → length incurred ≡ ages letter → all isAmount paid ≡ true → all isAmount incurred ≡ false → r ≡ refused Limits → r ≡ scheduleOf letter paid incurred
+  pub limits-incurred : length paid ≡ ages letter → length incurred ≡ ages letter → all isAmount paid ≡ true → all isAmount incurred ≡ false → r ≡ refused OutsideLimits → r ≡ scheduleOf letter paid incurred
+  unfolding refusalOf
   limits-incurred e n a b k = rw (eq-eqb (length paid) (ages letter) e, eq-eqb (length incurred) (ages letter) n, a, b) k
 
   pub judged : length paid ≡ ages letter → length incurred ≡ ages letter → all isAmount paid ≡ true → all isAmount incurred ≡ true → r ≡ judgedOf letter paid incurred → r ≡ scheduleOf letter paid incurred

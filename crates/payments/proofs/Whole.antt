@@ -2,7 +2,7 @@
 -- Assumes nothing.
 use mathlib.Core.Path.{_≡_, refl, _∙_}
 use mathlib.Core.Bool.{Bool, true, false, _&&_}
-use mathlib.Core.List.{List, map}
+use mathlib.Core.List.{List, [], _∷_, map}
 use Prim.Native.Nat.{ℕ, zero, suc, _+_, _-_}
 use native.Mathlib.Omega.{arith}
 use borrow.Author.Tests.{eqb-true}
@@ -15,13 +15,12 @@ use Rattle.model.specs.Letter.{tenYear, ages}
 use Rattle.model.specs.Pattern.{Age, agesOf, cumulative, payments, whole}
 use Rattle.model.specs.Tail.{tenYearTail, twoYearTail, schedule}
 use Rattle.model.specs.Call.{addPattern}
-use Rattle.model.specs.Question.{hasLengths, hasIncurred, climbs}
+use Rattle.model.specs.Question.{hasLengths, hasIncurred, climbs, firstNo}
 use Rattle.model.proofs.Lists.{and-left, and-right, sum-append}
 use Rattle.model.proofs.Ages.{length-ages-of, length-payments}
 use Rattle.model.proofs.Unpaid.{payments-are-whole}
-use Rattle.payments.specs.declared.schedule.Schedule.{Schedule}
-use Rattle.payments.specs.declared.schedule.Verdict.the-variants.{Fine, Length, Limits, Incurred, Falls}
-use Rattle.payments.specs.Schedule.{refused, scheduleOf, allAges, inPlaces}
+use Rattle.refusal.specs.declared.Verdict.the-variants.{Fine}
+use Rattle.payments.specs.Schedule.{scheduleBy, scheduleOf, allAges, inPlaces}
 
 -- a schedule has a payment for each of its ages
 length-schedule : (letter : ℕ) (given : List Age) → length given ≡ ages letter → length (schedule letter given) ≡ allAges letter
@@ -45,12 +44,12 @@ record Passed (a b c d : Bool) : Type 0 where
   incurred : c ≡ true
   climbing : d ≡ true
 
-fine-passes : (a b c d : Bool) (s : Schedule) → (if a then (if b then (if c then (if d then s else refused Falls) else refused Incurred) else refused Limits) else refused Length) .verdict ≡ Fine → Passed a b c d
-fine-passes true true true true s e = record { lengths = refl; limits = refl; incurred = refl; climbing = refl }
-fine-passes true true true false s e = let z : _≡_ {A = ℕ} 0 1 = cc in absurd (omega arith)
-fine-passes true true false d s e = let z : _≡_ {A = ℕ} 0 1 = cc in absurd (omega arith)
-fine-passes true false c d s e = let z : _≡_ {A = ℕ} 0 1 = cc in absurd (omega arith)
-fine-passes false b c d s e = let z : _≡_ {A = ℕ} 0 1 = cc in absurd (omega arith)
+fine-passes : (a b c d : Bool) (letter : ℕ) (given : List Age) → scheduleBy (firstNo ((4, a) ∷ (6, b) ∷ (11, c) ∷ (12, d) ∷ [])) letter given .verdict ≡ Fine → Passed a b c d
+fine-passes true true true true letter given e = record { lengths = refl; limits = refl; incurred = refl; climbing = refl }
+fine-passes true true true false letter given e = let z : _≡_ {A = ℕ} 0 1 = cc in absurd (omega arith)
+fine-passes true true false d letter given e = let z : _≡_ {A = ℕ} 0 1 = cc in absurd (omega arith)
+fine-passes true false c d letter given e = let z : _≡_ {A = ℕ} 0 1 = cc in absurd (omega arith)
+fine-passes false b c d letter given e = let z : _≡_ {A = ℕ} 0 1 = cc in absurd (omega arith)
 
 module _ (letter : ℕ) (paid incurred : List ℕ) (fine : scheduleOf letter paid incurred .verdict ≡ Fine) where
   abbrev given : List Age
@@ -58,7 +57,7 @@ module _ (letter : ℕ) (paid incurred : List ℕ) (fine : scheduleOf letter pai
 
   passed : Passed (hasLengths (addPattern letter 0 paid incurred)) (all isAmount paid && all isAmount incurred) (hasIncurred (addPattern letter 0 paid incurred)) (climbs (addPattern letter 0 paid incurred))
   passed =
-      fine-passes (hasLengths (addPattern letter 0 paid incurred)) (all isAmount paid && all isAmount incurred) (hasIncurred (addPattern letter 0 paid incurred)) (climbs (addPattern letter 0 paid incurred)) (record { verdict = Fine; pay = inPlaces letter (schedule letter given) }) fine
+      fine-passes (hasLengths (addPattern letter 0 paid incurred)) (all isAmount paid && all isAmount incurred) (hasIncurred (addPattern letter 0 paid incurred)) (climbs (addPattern letter 0 paid incurred)) letter given fine
 
   pub fine-lengths : hasLengths (addPattern letter 0 paid incurred) ≡ true
   fine-lengths = passed .lengths

@@ -5,20 +5,13 @@ use crate::tail::ten_year_tail;
 use crate::tail::two_year_tail;
 use letters::letter;
 use money::amount::Amount;
+use refusal::Refusal;
+use refusal::Verdict;
 ghost use mathlib.Core.Path.{_≡_};
 ghost use Prim.Native.Nat.{_-_, _*_, _≤_};
 ghost use Rattle.payments.specs.Schedule.{scheduleOf, judgedOf, refused, Listed, inPlaces, tailed};
 
-// What the lists are: a pattern; or the first of questions 4, 6, 11 and 12 that is answered no.
-pub enum Verdict {
-    Fine,
-    Length,
-    Limits,
-    Incurred,
-    Falls,
-}
-
-// The payments, in half units, are those at ages 1 to 16, or at 1 to 4 and then zeros.
+// What questions 4, 6, 11 and 12 of the lists come to; and the payments, in half units, at ages 1 to 16, or at 1 to 4 and then zeros.
 pub struct Schedule {
     pub verdict: Verdict,
     pub pay: [u64; 16],
@@ -30,25 +23,25 @@ pub fn schedule_of(letter: u8, paid: &[u64], incurred: &[u64]) -> Schedule
 {
     let ages = letter::ages(letter);
     if paid.len() != ages {
-        return refuse(Verdict::Length);
+        return refuse(Refusal::WrongCount);
     }
     if incurred.len() != ages {
-        return refuse(Verdict::Length);
+        return refuse(Refusal::WrongCount);
     }
     if Amount::all(paid) {
         if Amount::all(incurred) {
             return judge(letter, paid, incurred);
         }
-        return refuse(Verdict::Limits);
+        return refuse(Refusal::OutsideLimits);
     }
-    refuse(Verdict::Limits)
+    refuse(Refusal::OutsideLimits)
 }
 
-fn refuse(verdict: Verdict) -> Schedule
-    ensures { λ r. ⌜ r ≡ refused verdict ⌝ }
+fn refuse(refusal: Refusal) -> Schedule
+    ensures { λ r. ⌜ r ≡ refused refusal ⌝ }
 {
     Schedule {
-        verdict,
+        verdict: Verdict::Refused(refusal),
         pay: [0; 16],
     }
 }
@@ -68,9 +61,9 @@ fn judge(letter: u8, paid: &[u64], incurred: &[u64]) -> Schedule
                 pay: with_tail(letter, pay, given.last),
             };
         }
-        return refuse(Verdict::Falls);
+        return refuse(Refusal::RatioFalls);
     }
-    refuse(Verdict::Incurred)
+    refuse(Refusal::IncurredTooSmall)
 }
 
 // The payments at all ages, and zeros.

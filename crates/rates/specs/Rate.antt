@@ -1,15 +1,27 @@
--- What `rate` answers.
+-- What `mean_rate` answers.
 -- Assumes nothing: these are definitions.
-use mathlib.Core.List.{List}
+use mathlib.Core.Bool.{Bool}
+use mathlib.Core.List.{List, [], _∷_}
+use mathlib.Core.Option.{Option, none, some}
 use Prim.Native.Nat.{ℕ}
 use lib.Dec.{eqb}
 use lib.ListN.{length}
-use Rattle.model.specs.Basics.{if_then_else_, all}
+use Rattle.model.specs.Basics.{all}
 use Rattle.model.specs.Kind.{isRate}
+use Rattle.model.specs.Question.{firstNo}
 use Rattle.model.specs.Rate.{rateOf}
+use Rattle.refusal.specs.Number.{refusalOf}
 use Rattle.rates.specs.declared.rate.Mean.{Mean}
-use Rattle.rates.specs.declared.rate.Mean.the-variants.{Is, Length, Limits}
+use Rattle.rates.specs.declared.rate.Mean.the-variants.{Is, Refused}
 
--- the rate of sixty months; or that there are not sixty of them, or that one of them is no rate
+-- "4. Is the count of fields right?" "6. Is every number within its limits?": of the months
+abbrev pub monthQuestions : List ℕ → List (ℕ × Bool)
+monthQuestions months = (4, eqb (length months) 60) ∷ (6, all isRate months) ∷ []
+
+-- the rate, or the first question answered no
+abbrev pub meanBy : Option ℕ → ℕ → Mean
+meanBy none rate = Is (record { value = rate })
+meanBy (some question) rate = Refused (refusalOf question)
+
 abbrev pub meanOf : List ℕ → Mean
-meanOf months = if eqb (length months) 60 then (if all isRate months then Is (record { value = rateOf months }) else Limits) else Length
+meanOf months = meanBy (firstNo (monthQuestions months)) (rateOf months)

@@ -1,10 +1,13 @@
 // A line of output: the rate, the verdict's question (0: fine), the kept factors and the composite, parted by spaces.
+use kinds::rate::MaybeRate;
 use kinds::rate::Rate;
 use libc::STDOUT_FILENO;
-use payments::schedule::Verdict;
+use refusal::Verdict;
 
 pub fn show(letter: u8, rate: u64, paid: &[u64], incurred: &[u64]) {
-    let given = Rate { value: rate };
+    let MaybeRate::Within(given) = Rate::new(rate) else {
+        return;
+    };
     let pattern = factor::pattern::discount(letter, given, paid, incurred);
     io::print_decimal(STDOUT_FILENO, rate);
     let verdict = pattern.verdict;
@@ -27,9 +30,6 @@ fn field(n: u64) {
 fn question(verdict: Verdict) -> u64 {
     match verdict {
         Verdict::Fine => 0,
-        Verdict::Length => 4,
-        Verdict::Limits => 6,
-        Verdict::Incurred => 11,
-        Verdict::Falls => 12,
+        Verdict::Refused(refusal) => refusal.number(),
     }
 }

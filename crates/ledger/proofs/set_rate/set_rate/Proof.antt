@@ -10,29 +10,29 @@ mean-rate-requires c κs = search needs
 enum-known-mean : tie.Need-enum-known-mean
 enum-known-mean c = search needs
 
-refusal-of-requires : tie.Need-refusal-of-requires
-refusal-of-requires c κs = search needs
-
-refuse-requires : tie.Need-refuse-requires
-refuse-requires c κs = search needs
-
-returns : tie.Need-returns
-returns c = search (months-refused, c .before .before .match .keys2)
-
 is-year-requires : tie.Need-is-year-requires
 is-year-requires c κs = search needs
 
 ask-given-requires : tie.Need-ask-given-requires
 ask-given-requires c κs = search averaged
 
-returns-2 : tie.Need-returns-2
-returns-2 c = search rate-on
+returns : tie.Need-returns
+returns c = search rate-on
+
+refuse-requires : tie.Need-refuse-requires
+refuse-requires c κs = search needs
+
+enum-known-mean-2 : tie.Need-enum-known-mean-2
+enum-known-mean-2 c = search needs
 
 refuse-requires-2 : tie.Need-refuse-requires-2
 refuse-requires-2 c κs = search needs
 
+returns-2 : tie.Need-returns-2
+returns-2 c = search year-refused
+
 returns-3 : tie.Need-returns-3
-returns-3 c = search year-refused
+returns-3 c = search months-refused
 
 pub set-rate-spec : {M : Type 1} → statement M
 set-rate-spec =
@@ -40,11 +40,11 @@ set-rate-spec =
     (tie.spec
     mean-rate-requires
     enum-known-mean
-    refusal-of-requires
-    refuse-requires
-    returns
     is-year-requires
     ask-given-requires
-    returns-2
+    returns
+    refuse-requires
+    enum-known-mean-2
     refuse-requires-2
+    returns-2
     returns-3)

@@ -11,11 +11,17 @@ use Rattle.patterns.proofs.add_pattern.ask_ratios.Tie as tie
 discount-requires : tie.Need-discount-requires
 discount-requires c κs = search needs
 
-is-fine-requires : tie.Need-is-fine-requires
-is-fine-requires c κs = search needs
+enum-told : tie.Need-enum-told
+enum-told c = search needs
 
 keep-pattern-requires : tie.Need-keep-pattern-requires
 keep-pattern-requires c κs = search needs
+
+enum-known-verdict : tie.Need-enum-known-verdict
+enum-known-verdict c = search needs
+
+refuse-requires : tie.Need-refuse-requires
+refuse-requires c κs = search needs
 
 returns : tie.Need-returns
 returns c =
@@ -23,23 +29,10 @@ returns c =
     let lines : length (start .args .book .lines) ≡ 15 = search (length-mapped, start .good .0) in
     search pattern-added
 
-refusal-of-requires : tie.Need-refusal-of-requires
-refusal-of-requires c κs = search needs
-
-refuse-requires : tie.Need-refuse-requires
-refuse-requires c κs = search needs
-
 returns-2 : tie.Need-returns-2
 returns-2 c = search ratios-refused
 
 pub ask-ratios-spec : {M : Type 1} → statement M
 ask-ratios-spec =
     tie.close
-    (tie.spec
-    discount-requires
-    is-fine-requires
-    keep-pattern-requires
-    returns
-    refusal-of-requires
-    refuse-requires
-    returns-2)
+    (tie.spec discount-requires enum-told keep-pattern-requires enum-known-verdict refuse-requires returns returns-2)

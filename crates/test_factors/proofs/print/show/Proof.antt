@@ -10,6 +10,18 @@ Inv-loop letter rate paid incurred pattern factors i₀ t10 i = i ≤ 10
 abbrev μ-loop : tie.MeasureT-loop
 μ-loop letter rate paid incurred pattern factors i₀ t10 i = 10 - i
 
+new-requires : tie.Need-new-requires Inv-loop μ-loop
+new-requires c κs = search needs
+
+enum-known-given : tie.Need-enum-known-given Inv-loop μ-loop
+enum-known-given c = search needs
+
+enum-told : tie.Need-enum-told Inv-loop μ-loop
+enum-told c = search needs
+
+returns : tie.Need-returns Inv-loop μ-loop
+returns c = search needs
+
 discount-requires : tie.Need-discount-requires Inv-loop μ-loop
 discount-requires c κs = search needs
 
@@ -52,8 +64,8 @@ slice-aggregate-write-all c = search needs
 write-all-requires : tie.Need-write-all-requires Inv-loop μ-loop
 write-all-requires c κs = search needs
 
-returns : tie.Need-returns Inv-loop μ-loop
-returns c = search needs
+returns-2 : tie.Need-returns-2 Inv-loop μ-loop
+returns-2 c = search needs
 
 pub show-spec : {M : Type 1} → statement M
 show-spec =
@@ -61,6 +73,10 @@ show-spec =
     (tie.spec
     Inv-loop
     μ-loop
+    new-requires
+    enum-known-given
+    enum-told
+    returns
     discount-requires
     print-decimal-requires
     question-requires
@@ -75,4 +91,4 @@ show-spec =
     field-requires-3
     slice-aggregate-write-all
     write-all-requires
-    returns)
+    returns-2)
