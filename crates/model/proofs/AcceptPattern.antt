@@ -21,12 +21,12 @@ use Rattle.model.specs.Question.{follows, lastIsClosed}
 use Rattle.model.specs.Answer.{fact}
 use Rattle.model.specs.Step.{withLine, keptPattern, withPattern}
 use Rattle.model.specs.History.{Entry, listed, paymentsIn, keptIn, openingsIn, paidIn, lossesIn}
-use Rattle.model.specs.Demand.{Given, PatternHolds}
+use Rattle.model.specs.Demand.{Given, KeptNear, PatternHolds}
 use Rattle.model.proofs.Lists.{some≢none, cons≢nil, is-given, and-left, every-take, put-all, take-again}
 use Rattle.model.proofs.Near.{composite-near}
 use Rattle.model.proofs.Ages.{Sized, schedule-sized, ages-positive, kept-count, kept-near, worked-near}
 use Rattle.model.proofs.Entries.{with, rates-with, payments-with, kept-with, openings-with, closed-with, losses-with, paid-with, Fresh}
-use Rattle.model.proofs.Invariant.{Made, Reached, LineHolds, Invariant, aside, all-made-with, entries-with, rates-as}
+use Rattle.model.proofs.Invariant.{Reached, LineHolds, Invariant, aside, all-near-with, entries-with, rates-as}
 
 -- a pattern that is in turn is of a later year than any before it
 after-last : (last : Option Kept) (closed : Option Closed) (year : ℕ) → follows last closed year ≡ true → (y : ℕ) → Reached last y → y < year
@@ -95,8 +95,17 @@ module _ (h : List Entry) (b : Book) (letter year : ℕ) (paid incurred : List �
         from-pattern = rw (payments-with h e letter year, first-time (paymentsIn h letter year) refl, eq-eqb letter letter refl, eq-eqb year year refl);
       }
 
-  made : Made (with h e) letter pattern
-  made = record { rate = rate; pay = pay; source = source; sized = sized; factors-are = refl; composite-is = refl }
+  near : KeptNear (with h e) letter pattern
+  near =
+      record {
+        rate = rate;
+        pay = pay;
+        source = source;
+        count = kept-count letter rate pay sized;
+        kept-near = kept-near letter rate pay sized;
+        worked-near = worked-near rate pay (sized .short);
+        composite-near = composite-near letter rate pay (sized .short);
+      }
 
   kept-is : line .kept ≡ take (ages letter) (reverse (keptIn (with h e) letter))
   kept-is =
@@ -118,25 +127,13 @@ module _ (h : List Entry) (b : Book) (letter year : ℕ) (paid incurred : List �
         kept = kept-is;
         unclosed = l .unclosed;
         unkept = λ u. absurd (some≢none (d .0) (sym (d .1) ∙ u));
-        patterns = every-take (Made (with h e) letter) (ages letter) (pattern ∷ b .lines letter .kept) (made, all-made-with h e fresh letter (b .lines letter .kept) (l .patterns));
+        patterns = every-take (KeptNear (with h e) letter) (ages letter) (pattern ∷ b .lines letter .kept) (near, all-near-with h e fresh letter (b .lines letter .kept) (l .patterns));
         newest = λ y ps more s. newest-at y ps more (paymentsIn h letter y) (eqb y year) refl refl (rw (payments-with h e letter y, eq-eqb letter letter refl) at s);
         balance = rw (losses-with h e letter, paid-with h e letter, +ℤ-idr (lossesIn h letter), +ℤ-idr (paidIn h letter)) (l .balance);
       }
 
   pattern-holds : PatternHolds (with h e) line letter year
-  pattern-holds =
-      record {
-        rate = rate;
-        pay = pay;
-        source = source;
-        pattern = pattern;
-        keeps = keeps;
-        of-year = refl;
-        count = kept-count letter rate pay sized;
-        kept-near = kept-near letter rate pay sized;
-        worked-near = worked-near rate pay (sized .short);
-        composite-near = composite-near letter rate pay (sized .short);
-      }
+  pattern-holds = record { pattern = pattern; keeps = keeps; of-year = refl; near = near }
 
   pub accept-pattern : Invariant (with h e) (withLine b letter line)
   accept-pattern =

@@ -21,7 +21,7 @@ use Rattle.model.specs.History.{Entry, paymentsIn, keptIn, openingsIn, p
 use Rattle.model.specs.Demand.{YearHolds}
 use Rattle.model.proofs.Lists.{some≢none, is-given, put-all}
 use Rattle.model.proofs.Entries.{with, payments-with, kept-with, openings-with, closed-with, losses-with, paid-with, Fresh, entry-with}
-use Rattle.model.proofs.Invariant.{LineHolds, Invariant, aside, all-made-with, entries-with, rates-as}
+use Rattle.model.proofs.Invariant.{LineHolds, Invariant, aside, all-near-with, entries-with, rates-as}
 use Rattle.model.proofs.Rows.{rows-hold}
 
 -- losses x, paid q, declared opening s, last closing t, and one more loss p + c - t
@@ -78,7 +78,7 @@ module _ (h : List Entry) (b : Book) (letter year : ℕ) (paid : List ℤ) (unpa
         kept = rw (kept-with h e letter, append-nil (keptIn h letter)) (l .kept);
         unclosed = λ u. absurd (some≢none (d .0) (sym (d .1) ∙ u));
         unkept = l .unkept;
-        patterns = all-made-with h e fresh letter (b .lines letter .kept) (l .patterns);
+        patterns = all-near-with h e fresh letter (b .lines letter .kept) (l .patterns);
         newest = λ y pay more s. l .newest y pay more (rw (payments-with h e letter y, append-nil (paymentsIn h letter y)) at s);
         balance = rw (losses-with h e letter, paid-with h e letter, eq-eqb letter letter refl)
             (add-up (lossesIn h letter) (paidIn h letter) (paidTotal rows) (pos amount) (pos (orDefault (b .lines letter .opening) 0)) (pos (opening (b .lines letter))) (l .balance));

@@ -101,6 +101,7 @@ demand requests =
     let i = all requests [] empty none-yet in
     record {
       entries = i .entries;
+      patterns = λ letter. i .lines letter .patterns;
       kept = λ letter. i .lines letter .kept;
       losses = λ letter last s. losses-add-up h letter (b .lines letter) (b .lines letter .opening) last refl (i .lines letter) s;
       closed = λ letter. i .lines letter .closed;

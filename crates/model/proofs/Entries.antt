@@ -10,12 +10,12 @@ use lib.IntN.{ℤ, _+ℤ_, +ℤ-assoc, +ℤ-idl, +ℤ-idr}
 use mathlib.Core.Path.{_∙_}
 use Rattle.model.specs.Basics.{total}
 use Rattle.model.specs.Row.{Row, rowsOf, gross}
-use Rattle.model.specs.Book.{Book, Line}
+use Rattle.model.specs.Book.{Book, Line, Kept}
 use Rattle.model.specs.YearEnd.{discountedRow}
 use Rattle.model.specs.Call.{Call, declare, setRate, addPattern, closeYear}
 use Rattle.model.specs.Answer.{Answer}
 use Rattle.model.specs.History.{Entry, listed, gather, orElse, lastOf, rateFrom, paymentsFrom, keptFrom, declaredFrom, paidFrom, lossFrom, closedFrom, ratesIn, paymentsIn, keptIn, openingsIn, paidIn, lossesIn, closedIn}
-use Rattle.model.specs.Demand.{Given, PatternHolds, RowHolds, EntryHolds, rowYear, rowExact}
+use Rattle.model.specs.Demand.{Given, KeptNear, PatternHolds, RowHolds, EntryHolds, rowYear, rowExact}
 use Rattle.model.proofs.Lists.{only, every-at-map}
 use Rattle.model.proofs.RowBound.{nothing-near}
 
@@ -86,20 +86,20 @@ module _ (h : List Entry) (e : Entry) (fresh : Fresh h e) where
         from-pattern = rw (payments-with h e letter year, fresh .patterns letter year pay (g .from-pattern), g .from-pattern);
       }
 
-  pattern-with : (line : Line) (letter year : ℕ) → PatternHolds h line letter year → PatternHolds (with h e) line letter year
-  pattern-with line letter year p =
+  pub kept-near-with : (letter : ℕ) (p : Kept) → KeptNear h letter p → KeptNear (with h e) letter p
+  kept-near-with letter p n =
       record {
-        rate = p .rate;
-        pay = p .pay;
-        source = given-with letter year (p .rate) (p .pay) (p .source);
-        pattern = p .pattern;
-        keeps = p .keeps;
-        of-year = p .of-year;
-        count = p .count;
-        kept-near = p .kept-near;
-        worked-near = p .worked-near;
-        composite-near = p .composite-near;
+        rate = n .rate;
+        pay = n .pay;
+        source = given-with letter (p .year) (n .rate) (n .pay) (n .source);
+        count = n .count;
+        kept-near = n .kept-near;
+        worked-near = n .worked-near;
+        composite-near = n .composite-near;
       }
+
+  pattern-with : (line : Line) (letter year : ℕ) → PatternHolds h line letter year → PatternHolds (with h e) line letter year
+  pattern-with line letter year p = record { pattern = p .pattern; keeps = p .keeps; of-year = p .of-year; near = kept-near-with letter (p .pattern) (p .near) }
 
   row-with : (letter year k : ℕ) (row : Row) (d : ℕ) → RowHolds h letter year k row d → RowHolds (with h e) letter year k row d
   row-with letter year k row d r =

@@ -8,24 +8,12 @@ use lib.ListN.{take}
 use lib.IntN.{pos, _+ℤ_, +ℤ-idr}
 use Rattle.model.specs.Basics.{orDefault, Every}
 use Rattle.model.specs.Letter.{ages}
-use Rattle.model.specs.Factor.{keptFactors}
-use Rattle.model.specs.Composite.{composite}
 use Rattle.model.specs.Book.{Book, Line, Kept, latest}
 use Rattle.model.specs.YearEnd.{opening}
 use Rattle.model.specs.History.{Entry, listed, rateFrom, paymentsFrom, keptFrom, declaredFrom, paidFrom, lossFrom, closedFrom, ratesIn, paymentsIn, keptIn, openingsIn, paidIn, lossesIn, closedIn}
-use Rattle.model.specs.Demand.{Given, EntryHolds}
+use Rattle.model.specs.Demand.{KeptNear, EntryHolds}
 use Rattle.model.proofs.Lists.{every-map, every-snoc}
-use Rattle.model.proofs.Ages.{Sized}
-use Rattle.model.proofs.Entries.{with, rates-with, payments-with, kept-with, openings-with, closed-with, losses-with, paid-with, Fresh, given-with, entry-with}
-
--- a kept pattern is made from the entries
-pub record Made (h : List Entry) (letter : ℕ) (p : Kept) : Type 0 where
-  pub rate : ℕ
-  pub pay : List ℕ
-  pub source : Given h letter (p .year) rate pay
-  pub sized : Sized letter pay
-  pub factors-are : p .factors ≡ keptFactors letter rate pay
-  pub composite-is : p .composite ≡ composite letter rate pay
+use Rattle.model.proofs.Entries.{with, rates-with, payments-with, kept-with, openings-with, closed-with, losses-with, paid-with, Fresh, kept-near-with, entry-with}
 
 -- the last kept pattern is of that year or of a later one
 pub record Reached (last : Option Kept) (year : ℕ) : Type 0 where
@@ -39,7 +27,7 @@ pub record LineHolds (h : List Entry) (letter : ℕ) (line : Line) : Type 0 wher
   pub kept : line .kept ≡ take (ages letter) (reverse (keptIn h letter))
   pub unclosed : line .opening ≡ none → line .closed ≡ none
   pub unkept : line .opening ≡ none → line .kept ≡ []
-  pub patterns : Every (Made h letter) (line .kept)
+  pub patterns : Every (KeptNear h letter) (line .kept)
   pub newest : (year : ℕ) (pay : List ℕ) (more : List (List ℕ)) → paymentsIn h letter year ≡ pay ∷ more → Reached (latest (line .kept)) year
   pub balance : lossesIn h letter +ℤ pos (orDefault (line .opening) 0) ≡ paidIn h letter +ℤ pos (opening line)
 
@@ -61,19 +49,8 @@ pub record Aside (e : Entry) (letter : ℕ) : Type 0 where
   pub no-paid : paidFrom letter (e .call) ≡ pos 0
 
 module _ (h : List Entry) (e : Entry) (fresh : Fresh h e) where
-  pub made-with : (letter : ℕ) (p : Kept) → Made h letter p → Made (with h e) letter p
-  made-with letter p m =
-      record {
-        rate = m .rate;
-        pay = m .pay;
-        source = given-with h e fresh letter (p .year) (m .rate) (m .pay) (m .source);
-        sized = m .sized;
-        factors-are = m .factors-are;
-        composite-is = m .composite-is;
-      }
-
-  pub all-made-with : (letter : ℕ) (kept : List Kept) → Every (Made h letter) kept → Every (Made (with h e) letter) kept
-  all-made-with letter kept all = every-map (Made h letter) (Made (with h e) letter) (made-with letter) kept all
+  pub all-near-with : (letter : ℕ) (kept : List Kept) → Every (KeptNear h letter) kept → Every (KeptNear (with h e) letter) kept
+  all-near-with letter kept all = every-map (KeptNear h letter) (KeptNear (with h e) letter) (kept-near-with h e fresh letter) kept all
 
   pub aside : (letter : ℕ) (line : Line) → Aside e letter → LineHolds h letter line → LineHolds (with h e) letter line
   aside letter line a l =
@@ -83,7 +60,7 @@ module _ (h : List Entry) (e : Entry) (fresh : Fresh h e) where
         kept = rw (kept-with h e letter, a .no-kept, append-nil (keptIn h letter)) (l .kept);
         unclosed = l .unclosed;
         unkept = l .unkept;
-        patterns = all-made-with letter (line .kept) (l .patterns);
+        patterns = all-near-with letter (line .kept) (l .patterns);
         newest = λ year pay more s. l .newest year pay more (rw (payments-with h e letter year, a .no-payments year, append-nil (paymentsIn h letter year)) at s);
         balance = rw (losses-with h e letter, paid-with h e letter, a .no-loss, a .no-paid, +ℤ-idr (lossesIn h letter), +ℤ-idr (paidIn h letter)) (l .balance);
       }

@@ -13,8 +13,6 @@ use lib.Dec.{eqb, ltb}
 use lib.ListN.{take, getD}
 use Rattle.model.specs.Basics.{if_then_else_, given, Every, EveryAt}
 use Rattle.model.specs.Letter.{ages}
-use Rattle.model.specs.Factor.{keptFactors}
-use Rattle.model.specs.Composite.{composite}
 use Rattle.model.specs.Published.{published}
 use Rattle.model.specs.Exact.{Fraction, exactComposite, compositeUnpaid}
 use Rattle.model.specs.Row.{Row, gross, discounted}
@@ -23,12 +21,9 @@ use Rattle.model.specs.YearEnd.{factorAt, compositeOf, rowFactor, discou
 use Rattle.model.specs.Question.{haveKept, isYearOf}
 use Rattle.model.specs.Near.{FactorNear, RowNear}
 use Rattle.model.specs.History.{Entry}
-use Rattle.model.specs.Demand.{Given, unpaidAt, exactAt, RowHolds}
+use Rattle.model.specs.Demand.{Given, unpaidAt, exactAt, KeptNear, RowHolds}
 use Rattle.model.proofs.Lists.{some≢none, only, is-given, and-left, and-right}
 use Rattle.model.proofs.RowBound.{row-near, nothing-left, nothing-near}
-use Rattle.model.proofs.Near.{composite-near}
-use Rattle.model.proofs.Ages.{kept-near}
-use Rattle.model.proofs.Invariant.{Made}
 
 -- a pattern that is found has the year, and what holds of all
 find-at : (P : Kept → Type 0) (year : ℕ) (q : Kept) (kept : List Kept) (p : Kept) (t : Bool) → eqb year (q .year) ≡ t → (if t then some q else find year kept) ≡ some p → P q → (find year kept ≡ some p → P p × (p .year ≡ year))
@@ -40,18 +35,18 @@ find-in : (P : Kept → Type 0) (year : ℕ) (kept : List Kept) (p : Kept) → f
 find-in P year [] p e h = absurd (some≢none p (sym e))
 find-in P year (q ∷ kept) p e h = find-at P year q kept p (eqb year (q .year)) refl e (h .0) (λ s. find-in P year kept p s (h .1))
 
--- what a pattern that is found was made from
+-- a pattern that is found is near, by the rate and the payments of its year
 record Found (h : List Entry) (letter year : ℕ) (o : Option Kept) : Type 0 where
   pattern : Kept
   is : o ≡ some pattern
-  made : Made h letter pattern
-  source : Given h letter year (made .rate) (made .pay)
+  near : KeptNear h letter pattern
+  source : Given h letter year (near .rate) (near .pay)
 
-found : (h : List Entry) (letter year : ℕ) (kept : List Kept) → Every (Made h letter) kept → given (find year kept) ≡ true → Found h letter year (find year kept)
+found : (h : List Entry) (letter year : ℕ) (kept : List Kept) → Every (KeptNear h letter) kept → given (find year kept) ≡ true → Found h letter year (find year kept)
 found h letter year kept all g =
     let s = is-given (find year kept) g in
-    let f = find-in (Made h letter) year kept (s .0) (s .1) all in
-    record { pattern = s .0; is = s .1; made = f .0; source = rw (f .1) at (f .0 .source) }
+    let f = find-in (KeptNear h letter) year kept (s .0) (s .1) all in
+    record { pattern = s .0; is = s .1; near = f .0; source = rw (f .1) at (f .0 .source) }
 
 -- a row is near where its factor is, whichever of the entries' rates and patterns is meant: there is one of each
 from-source : (h : List Entry) (letter year : ℕ) (row : Row) (f : ℕ) (exact : ℕ → List ℕ → Fraction) (left : List ℕ → ℕ) (rate : ℕ) (pay : List ℕ) → Given h letter year rate pay → (0 < left pay → FactorNear rate (exact rate pay) f)
@@ -65,7 +60,7 @@ either : (a b : Bool) → a || b ≡ true → a ≡ false → b ≡ true
 either true b e q = cc
 either false b e q = e
 
-module _ (h : List Entry) (letter year : ℕ) (line : Line) (all : Every (Made h letter) (line .kept)) where
+module _ (h : List Entry) (letter year : ℕ) (line : Line) (all : Every (KeptNear h letter) (line .kept)) where
   -- which factor a row takes
   age-factor : (k : ℕ) → ltb k (ages letter) ≡ true → rowFactor letter line year k ≡ factorAt k (find (year - k) (line .kept))
   unfolding rowFactor
@@ -77,15 +72,13 @@ module _ (h : List Entry) (letter year : ℕ) (line : Line) (all : Every (Made h
 
   age-near : (k : ℕ) (row : Row) → k < ages letter → (o : Option Kept) → Found h letter (year - k) o → (r : ℕ) (ps : List ℕ) → Given h letter (year - k) r ps → 0 < unpaidAt k ps → RowNear r (exactAt r k ps) row (discounted row (published (factorAt k o)))
   age-near k row lt o f =
-      let m = f .made in
-      rw (f .is, m .factors-are)
-      (from-source h letter (year - k) row (getD (keptFactors letter (m .rate) (m .pay)) k 0) (λ r ps. exactAt r k ps) (unpaidAt k) (m .rate) (m .pay) (f .source) (kept-near letter (m .rate) (m .pay) (m .sized) k lt))
+      let n = f .near in
+      rw (f .is) (from-source h letter (year - k) row (getD (f .pattern .factors) k 0) (λ r ps. exactAt r k ps) (unpaidAt k) (n .rate) (n .pay) (f .source) (n .kept-near k lt))
 
   prior-near : (row : Row) (o : Option Kept) → Found h letter year o → (r : ℕ) (ps : List ℕ) → Given h letter year r ps → 0 < compositeUnpaid letter ps → RowNear r (exactComposite letter r ps) row (discounted row (published (compositeOf o)))
   prior-near row o f =
-      let m = f .made in
-      rw (f .is, m .composite-is)
-      (from-source h letter year row (composite letter (m .rate) (m .pay)) (exactComposite letter) (compositeUnpaid letter) (m .rate) (m .pay) (f .source) (composite-near letter (m .rate) (m .pay) (m .sized .short)))
+      let n = f .near in
+      rw (f .is) (from-source h letter year row (f .pattern .composite) (exactComposite letter) (compositeUnpaid letter) (n .rate) (n .pay) (f .source) (n .composite-near))
 
   -- a row of an age: with gross it has a pattern
   age-row : (k : ℕ) (row : Row) → k < ages letter → eqb (gross row) 0 || given (find (year - k) (line .kept)) ≡ true → RowHolds h letter year k row (discountedRow letter line year k row)
@@ -94,7 +87,7 @@ module _ (h : List Entry) (letter year : ℕ) (line : Line) (all : Every (Made h
       let with-gross : 0 < gross row → Found h letter (year - k) (find (year - k) (line .kept))
       = λ g. found h letter (year - k) (line .kept) all (either (eqb (gross row) 0) _ q (ne-eqb (gross row) 0 (omega arith))) in
       record {
-        has = λ g. let f = with-gross g in rw e (f .made .rate, f .made .pay, f .source);
+        has = λ g. let f = with-gross g in rw e (f .near .rate, f .near .pay, f .source);
         nothing = λ z. nothing-left row _ z;
         near = λ r ps g u. rw (age-factor k e, e)
             (⊎-elim
@@ -113,7 +106,7 @@ module _ (h : List Entry) (letter year : ℕ) (line : Line) (all : Every (Made h
       let e : ltb k (ages letter) ≡ false = le-ltb k (ages letter) le in
       let f = found h letter year (line .kept) all (own-found (line .kept) q) in
       record {
-        has = λ g. rw e (f .made .rate, f .made .pay, f .source);
+        has = λ g. rw e (f .near .rate, f .near .pay, f .source);
         nothing = λ z. nothing-left row _ z;
         near = λ r ps g u. rw (prior-factor k e, e) (prior-near row _ f r ps (rw e at g) (rw e at u));
       }

@@ -36,19 +36,24 @@ unpaidAt k pay = unpaid (drop (suc k) pay)
 abbrev pub exactAt : ℕ → ℕ → List ℕ → Fraction
 exactAt rate k pay = exactRatio rate (drop (suc k) pay)
 
--- (i) An accepted PATT: the line that it left keeps its pattern, and each factor and the composite are near where something is unpaid.
-pub record PatternHolds (h : List Entry) (line : Line) (letter year : ℕ) : Type 0 where
+-- (i) A pattern that a book keeps: "kept factors and composites are at most the exact ratio and less than 29 units of the tenth decimal below it", each where something is unpaid.
+-- "A kept factor is compared with its exact ratio × 10,000,000,000, a composite with its exact value × 10,000,000,000."
+pub record KeptNear (h : List Entry) (letter : ℕ) (pattern : Kept) : Type 0 where
   pub rate : ℕ
   pub pay : List ℕ
-  pub source : Given h letter year rate pay
-  pub pattern : Kept
-  pub keeps : latest (line .kept) ≡ some pattern
-  pub of-year : pattern .year ≡ year
+  pub source : Given h letter (pattern .year) rate pay
   pub count : length (pattern .factors) ≡ ages letter
   pub kept-near : (k : ℕ) → k < ages letter → 0 < unpaidAt k pay → FactorNear rate (exactAt rate k pay) (getD (pattern .factors) k 0)
   -- the factors of all ages, those of the tail too, of which the composite is the mean
   pub worked-near : (k : ℕ) → 0 < unpaidAt k pay → FactorNear rate (exactAt rate k pay) (getD (factors (halfYear rate) (10000 + rate) pay) k 0)
   pub composite-near : 0 < compositeUnpaid letter pay → FactorNear rate (exactComposite letter rate pay) (pattern .composite)
+
+-- an accepted PATT: the line that it left keeps the pattern of its year as the last one
+pub record PatternHolds (h : List Entry) (line : Line) (letter year : ℕ) : Type 0 where
+  pub pattern : Kept
+  pub keeps : latest (line .kept) ≡ some pattern
+  pub of-year : pattern .year ≡ year
+  pub near : KeptNear h letter pattern
 
 -- the accident year of the row at place k, what is unpaid in the pattern there, and the exact ratio of its factor: an age's, or the composite's for the prior row
 abbrev pub rowYear : ℕ → ℕ → ℕ → ℕ
@@ -89,6 +94,8 @@ pub record LossesAddUp (h : List Entry) (letter lastClosing : ℕ) : Type 0 wher
 pub record Holds (h : List Entry) (b : Book) : Type 0 where
   -- every accepted PATT and YEAR
   pub entries : Every (λ e. EntryHolds h (e .before) (e .answer) (e .later) (e .call)) h
+  -- every pattern that the book keeps
+  pub patterns : (letter : ℕ) → Every (KeptNear h letter) (b .lines letter .kept)
   -- "A line keeps its latest ten patterns (two-year: two).": exactly those of its latest accepted PATTs
   pub kept : (letter : ℕ) → b .lines letter .kept ≡ take (ages letter) (reverse (keptIn h letter))
   -- every line with a closed year
