@@ -14,7 +14,7 @@ use Rattle.model.specs.Row.{Row, rowsOf}
 use Rattle.model.specs.Book.{Book, Line, latest}
 use Rattle.model.specs.YearEnd.{closing, opening, paidTotal, loss}
 use Rattle.model.specs.Call.{closeYear}
-use Rattle.model.specs.Question.{isYearOf, haveKept}
+use Rattle.model.specs.Question.{hasLengths, isYearOf, haveKept}
 use Rattle.model.specs.Answer.{tax}
 use Rattle.model.specs.Step.{withLine, withClosing}
 use Rattle.model.specs.History.{Entry, paymentsIn, keptIn, openingsIn, paidIn, lossesIn}
@@ -23,6 +23,7 @@ use Rattle.model.proofs.Lists.{some≢none, is-given, put-all}
 use Rattle.model.proofs.Entries.{with, payments-with, kept-with, openings-with, closed-with, losses-with, paid-with, Fresh, entry-with}
 use Rattle.model.proofs.Invariant.{LineHolds, Invariant, aside, all-near-with, entries-with, rates-as}
 use Rattle.model.proofs.Rows.{rows-hold}
+use Rattle.model.proofs.Paid.{paid-total-is}
 
 -- losses x, paid q, declared opening s, last closing t, and one more loss p + c - t
 add-up : (x q p c s t : ℤ) → x +ℤ s ≡ q +ℤ t → x +ℤ (p +ℤ c -ℤ t) +ℤ s ≡ q +ℤ p +ℤ c
@@ -37,6 +38,7 @@ add-up x q p c s t e =
     ≡⟨ sym (+ℤ-assoc q p c) ⟩ q +ℤ p +ℤ c ∎
 
 module _ (h : List Entry) (b : Book) (letter year : ℕ) (paid : List ℤ) (unpaid tabular : List ℕ) (i : Invariant h b)
+    (q4 : hasLengths (closeYear letter year paid unpaid tabular) ≡ true)
     (q8 : given (b .lines letter .opening) ≡ true)
     (q10 : isYearOf (latest (b .lines letter .kept)) year ≡ true)
     (q13 : haveKept (b .lines letter .kept) year 0 (take (ages letter) (rowsOf paid unpaid tabular)) ≡ true) where
@@ -80,7 +82,7 @@ module _ (h : List Entry) (b : Book) (letter year : ℕ) (paid : List ℤ) (unpa
         unkept = l .unkept;
         patterns = all-near-with h e fresh letter (b .lines letter .kept) (l .patterns);
         newest = λ y pay more s. l .newest y pay more (rw (payments-with h e letter y, append-nil (paymentsIn h letter y)) at s);
-        balance = rw (losses-with h e letter, paid-with h e letter, eq-eqb letter letter refl)
+        balance = rw (losses-with h e letter, paid-with h e letter, eq-eqb letter letter refl, ← paid-total-is letter year paid unpaid tabular q4)
             (add-up (lossesIn h letter) (paidIn h letter) (paidTotal rows) (pos amount) (pos (orDefault (b .lines letter .opening) 0)) (pos (opening (b .lines letter))) (l .balance));
       }
 

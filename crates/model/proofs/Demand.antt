@@ -44,7 +44,7 @@ accept-holds h b (addPattern letter year paid incurred) i p =
     (length-ages-of (ages letter) paid incurred (eqb-true _ _ (and-left n m (p .lengths))) (eqb-true _ _ (and-right n m (p .lengths))))
     (p .declared) (p .rate) (p .turn)
 accept-holds h b (closeYear letter year paid unpaid tabular) i p =
-    accept-year h b letter year paid unpaid tabular i (p .declared) (and-left (isYearOf (latest (b .lines letter .kept)) year) (isOpen (b .lines letter .closed) year) (p .turn)) (p .patterns)
+    accept-year h b letter year paid unpaid tabular i (p .lengths) (p .declared) (and-left (isYearOf (latest (b .lines letter .kept)) year) (isOpen (b .lines letter .closed) year) (p .turn)) (p .patterns)
 
 refuse-holds : (h : List Entry) (b : Book) (question : ℕ) → Invariant h b → Invariant h (refuse b question .book)
 unfolding refuse

@@ -17,6 +17,7 @@ pub mod Lines
 pub mod Lists
 pub mod Near
 pub mod OldRow
+pub mod Paid
 pub mod Passed
 pub mod RowBound
 pub mod Rows

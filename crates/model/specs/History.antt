@@ -10,9 +10,7 @@ use Rattle.model.specs.Basics.{if_then_else_, total}
 use Rattle.model.specs.Rate.{rateOf}
 use Rattle.model.specs.Pattern.{agesOf}
 use Rattle.model.specs.Tail.{schedule}
-use Rattle.model.specs.Row.{rowsOf}
 use Rattle.model.specs.Book.{Book, Kept, Closed, latest}
-use Rattle.model.specs.YearEnd.{paidTotal}
 use Rattle.model.specs.Call.{Call, declare, setRate, addPattern, closeYear}
 use Rattle.model.specs.Answer.{Answer, declared, rated, fact, tax, refusal}
 use Rattle.model.specs.Question.{firstNo}
@@ -85,12 +83,12 @@ declaredFrom l (setRate year months) = none
 declaredFrom l (addPattern letter year paid incurred) = none
 declaredFrom l (closeYear letter year paid unpaid tabular) = none
 
--- the paid of all rows of a call that closes a year of the letter; 0 of any other
+-- the sum of every paid that a call which closes a year of the letter lists, the prior row's too; 0 of any other
 abbrev pub paidFrom : ℕ → Call → ℤ
 paidFrom l (declare letter opening) = pos 0
 paidFrom l (setRate year months) = pos 0
 paidFrom l (addPattern letter year paid incurred) = pos 0
-paidFrom l (closeYear letter year paid unpaid tabular) = if eqb l letter then paidTotal (rowsOf paid unpaid tabular) else pos 0
+paidFrom l (closeYear letter year paid unpaid tabular) = if eqb l letter then total (λ v. v) paid else pos 0
 
 -- the loss, and the year with its closing, that a TAX of the letter answers
 abbrev pub lossFrom : ℕ → Answer → ℤ
