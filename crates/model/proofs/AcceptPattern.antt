@@ -10,7 +10,7 @@ use borrow.Author.Tests.{eq-eqb, eqb-true}
 use lib.Dec.{eqb}
 use lib.ListN.{length, take}
 use lib.IntN.{+ℤ-idr}
-use Rattle.model.specs.Basics.{if_then_else_, given, orDefault}
+use Rattle.model.specs.Basics.{if_then_else_, given, orDefault, Every}
 use Rattle.model.specs.Letter.{ages}
 use Rattle.model.specs.Published.{published}
 use Rattle.model.specs.Pattern.{agesOf}
@@ -71,7 +71,7 @@ module _ (h : List Entry) (b : Book) (letter year : ℕ) (paid incurred : List �
   sized = schedule-sized letter (agesOf paid incurred) q4
 
   keeps : latest (line .kept) ≡ some pattern
-  keeps = kept-first (ages letter) pattern (b .lines letter .kept) (ages-positive letter)
+  keeps = kept-first (ages letter) pattern _ (ages-positive letter)
 
   first-time : (found : List (List ℕ)) → paymentsIn h letter year ≡ found → found ≡ []
   first-time [] e = refl
@@ -107,6 +107,10 @@ module _ (h : List Entry) (b : Book) (letter year : ℕ) (paid incurred : List �
         composite-near = composite-near letter rate pay (sized .short);
       }
 
+  all-near : Every (KeptNear (with h e) letter) (line .kept)
+  all-near =
+      every-take (KeptNear (with h e) letter) (ages letter) (pattern ∷ b .lines letter .kept) (near, all-near-with h e fresh letter (b .lines letter .kept) (i .lines letter .patterns))
+
   kept-is : line .kept ≡ take (ages letter) (reverse (keptIn (with h e) letter))
   kept-is =
       rw (kept-with h e letter, eq-eqb letter letter refl, keeps, reverse-append (keptIn h letter) (pattern ∷ []), i .lines letter .kept)
@@ -127,7 +131,7 @@ module _ (h : List Entry) (b : Book) (letter year : ℕ) (paid incurred : List �
         kept = kept-is;
         unclosed = l .unclosed;
         unkept = λ u. absurd (some≢none (d .0) (sym (d .1) ∙ u));
-        patterns = every-take (KeptNear (with h e) letter) (ages letter) (pattern ∷ b .lines letter .kept) (near, all-near-with h e fresh letter (b .lines letter .kept) (l .patterns));
+        patterns = all-near;
         newest = λ y ps more s. newest-at y ps more (paymentsIn h letter y) (eqb y year) refl refl (rw (payments-with h e letter y, eq-eqb letter letter refl) at s);
         balance = rw (losses-with h e letter, paid-with h e letter, +ℤ-idr (lossesIn h letter), +ℤ-idr (paidIn h letter)) (l .balance);
       }

@@ -1,6 +1,6 @@
 -- The paid total of an accepted YEAR is the sum of every paid that it lists: its three lists have one length.
 -- Assumes nothing.
-use mathlib.Core.Path.{_≡_, refl}
+use mathlib.Core.Path.{_≡_, refl, ap}
 use mathlib.Core.Bool.{Bool, true, _&&_}
 use mathlib.Core.List.{List, [], _∷_}
 use Prim.Native.Nat.{ℕ, suc}
@@ -8,7 +8,7 @@ use native.Mathlib.Omega.{arith}
 use borrow.Author.Tests.{eqb-true}
 use lib.Dec.{eqb}
 use lib.ListN.{length}
-use lib.IntN.{ℤ}
+use lib.IntN.{ℤ, _+ℤ_}
 use Rattle.model.specs.Basics.{total}
 use Rattle.model.specs.Letter.{ages}
 use Rattle.model.specs.Row.{rowsOf}
@@ -22,7 +22,7 @@ unfolding paidTotal
 paid-of-rows [] unpaid tabular eu et = refl
 paid-of-rows (v ∷ paid) [] tabular eu et = absurd (omega arith)
 paid-of-rows (v ∷ paid) (u ∷ unpaid) [] eu et = absurd (omega arith)
-paid-of-rows (v ∷ paid) (u ∷ unpaid) (t ∷ tabular) eu et = rw (paid-of-rows paid unpaid tabular (omega arith) (omega arith))
+paid-of-rows (v ∷ paid) (u ∷ unpaid) (t ∷ tabular) eu et = ap (λ (x : ℤ). v +ℤ x) (paid-of-rows paid unpaid tabular (omega arith) (omega arith))
 
 module _ (letter year : ℕ) (paid : List ℤ) (unpaid tabular : List ℕ) (lengths : hasLengths (closeYear letter year paid unpaid tabular) ≡ true) where
   -- a row for each age, and the prior row
