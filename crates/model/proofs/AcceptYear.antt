@@ -23,7 +23,7 @@ use Rattle.model.proofs.Lists.{some≢none, is-given, put-all}
 use Rattle.model.proofs.Entries.{with, payments-with, kept-with, openings-with, closed-with, losses-with, paid-with, Fresh, entry-with}
 use Rattle.model.proofs.Invariant.{LineHolds, Invariant, aside, all-near-with, entries-with, rates-as}
 use Rattle.model.proofs.Rows.{rows-hold}
-use Rattle.model.proofs.Paid.{paid-total-is}
+use Rattle.model.proofs.YearRows.{rows-count, paid-total-is}
 
 -- losses x, paid q, declared opening s, last closing t, and one more loss p + c - t
 add-up : (x q p c s t : ℤ) → x +ℤ s ≡ q +ℤ t → x +ℤ (p +ℤ c -ℤ t) +ℤ s ≡ q +ℤ p +ℤ c
@@ -66,6 +66,7 @@ module _ (h : List Entry) (b : Book) (letter year : ℕ) (paid : List ℤ) (unpa
   year-holds : YearHolds h (b .lines letter) (e .answer) letter year rows
   year-holds =
       record {
+        whole = rows-count letter year paid unpaid tabular q4;
         answered = unfold closing in rw (eq-eqb letter letter refl);
         each = rows-hold h letter year (b .lines letter) (i .lines letter .patterns) (ages letter) 0 rows (omega arith) q13 q10;
       }

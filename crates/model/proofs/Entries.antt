@@ -124,6 +124,7 @@ module _ (h : List Entry) (e : Entry) (fresh : Fresh h e) where
   entry-with before answer later (closeYear letter year paid unpaid tabular) n =
       let line : Line = before .lines letter in
       record {
+        whole = n .whole;
         answered = n .answered;
         each = every-at-map
             (λ k row. RowHolds h letter year k row (discountedRow letter line year k row))

@@ -17,7 +17,6 @@ pub mod Lines
 pub mod Lists
 pub mod Near
 pub mod OldRow
-pub mod Paid
 pub mod Passed
 pub mod RowBound
 pub mod Rows
@@ -25,3 +24,4 @@ pub mod Sample
 pub mod Sharp
 pub mod Steps
 pub mod Unpaid
+pub mod YearRows

@@ -73,6 +73,8 @@ pub record RowHolds (h : List Entry) (letter year k : ℕ) (row : Row) (d : ℕ)
 
 -- "The discounted rows are those summed in the closings": those of the line as the record found it
 pub record YearHolds (h : List Entry) (line : Line) (answer : Answer) (letter year : ℕ) (rows : List Row) : Type 0 where
+  -- "paid, unpaid, tabular for each age, prior row last": none is left out
+  pub whole : length rows ≡ suc (ages letter)
   pub answered : closedFrom letter answer ≡ some (record { year = year; closing = sum (discountedRows letter line year 0 rows) })
   pub each : EveryAt (λ k row. RowHolds h letter year k row (discountedRow letter line year k row)) 0 rows
 

@@ -1,4 +1,4 @@
--- The paid total of an accepted YEAR is the sum of every paid that it lists: its three lists have one length.
+-- The rows of a YEAR whose three lists have their length: one for each number of a list, so that nothing that a list says is left out.
 -- Assumes nothing.
 use mathlib.Core.Path.{_≡_, refl, ap}
 use mathlib.Core.Bool.{Bool, true, _&&_}
@@ -24,6 +24,12 @@ paid-of-rows (v ∷ paid) [] tabular eu et = absurd (omega arith)
 paid-of-rows (v ∷ paid) (u ∷ unpaid) [] eu et = absurd (omega arith)
 paid-of-rows (v ∷ paid) (u ∷ unpaid) (t ∷ tabular) eu et = ap (λ (x : ℤ). v +ℤ x) (paid-of-rows paid unpaid tabular (omega arith) (omega arith))
 
+count-of-rows : (paid : List ℤ) (unpaid tabular : List ℕ) → length unpaid ≡ length paid → length tabular ≡ length paid → length (rowsOf paid unpaid tabular) ≡ length paid
+count-of-rows [] unpaid tabular eu et = refl
+count-of-rows (v ∷ paid) [] tabular eu et = absurd (omega arith)
+count-of-rows (v ∷ paid) (u ∷ unpaid) [] eu et = absurd (omega arith)
+count-of-rows (v ∷ paid) (u ∷ unpaid) (t ∷ tabular) eu et = ap suc (count-of-rows paid unpaid tabular (omega arith) (omega arith))
+
 module _ (letter year : ℕ) (paid : List ℤ) (unpaid tabular : List ℕ) (lengths : hasLengths (closeYear letter year paid unpaid tabular) ≡ true) where
   -- a row for each age, and the prior row
   pub length-is : (length paid ≡ suc (ages letter)) × (length unpaid ≡ suc (ages letter)) × (length tabular ≡ suc (ages letter))
@@ -34,6 +40,9 @@ module _ (letter year : ℕ) (paid : List ℤ) (unpaid tabular : List ℕ) (leng
       let t : Bool = eqb (length tabular) n in
       let pu : p && u ≡ true = and-left (p && u) t lengths in
       (eqb-true (length paid) n (and-left p u pu), eqb-true (length unpaid) n (and-right p u pu), eqb-true (length tabular) n (and-right (p && u) t lengths))
+
+  pub rows-count : length (rowsOf paid unpaid tabular) ≡ suc (ages letter)
+  rows-count = omega (arith, length-is, count-of-rows paid unpaid tabular (omega (arith, length-is)) (omega (arith, length-is)))
 
   pub paid-total-is : paidTotal (rowsOf paid unpaid tabular) ≡ total (λ v. v) paid
   paid-total-is = paid-of-rows paid unpaid tabular (omega (arith, length-is)) (omega (arith, length-is))
