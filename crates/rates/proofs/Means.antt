@@ -7,8 +7,6 @@ use Prim.Native.Nat.{ℕ, _+_, _/_, _≤_}
 use native.Mathlib.Omega.{arith}
 use borrow.Author.Tests.{eq-eqb, ne-eqb, le-leb}
 use lib.ListN.{length}
-use mir.Syntax.{w64}
-use mir.Val.{Fits}
 use Rattle.model.specs.Basics.{sum, all}
 use Rattle.model.specs.Kind.{isRate}
 use Rattle.refusal.specs.Number.{refusalOf}
@@ -32,11 +30,8 @@ module _ (months : List ℕ) where
     limited e = rw (eq-eqb (length months) 60 n, ← et, e)
 
     module _ (e : t ≡ true) (s : ℕ) (es : s ≡ sum months) where
-      small : s ≤ 150000
+      pub small : s ≤ 150000
       small = omega (arith, sum-small months (sym et ∙ e))
-
-      pub fits : Fits w64 (s + 30)
-      fits = record { fits = omega (arith, small) }
 
       module _ (x : MaybeRate) (ex : x ≡ kinds.rateOf ((s + 30) / 60)) where
         within : x ≡ Within (record { value = (s + 30) / 60 })

@@ -1,8 +1,9 @@
 -- `rates::rate::mean_rate` meets its contract. Assumes nothing.
 use mathlib.Core.Path.{sym, _∙_}
+use Prim.Native.Nat.{_≤_}
 use native.Mathlib.Omega.{arith}
 use borrow.Author.Needs.{needs}
-use Rattle.rates.proofs.Means.{counted, limited, fits, is-mean, not-outside}
+use Rattle.rates.proofs.Means.{counted, limited, small, is-mean, not-outside}
 use Rattle.rates.proofs.rate.mean_rate.Statement.{statement}
 use Rattle.rates.proofs.rate.mean_rate.Tie as tie
 
@@ -16,7 +17,7 @@ total-requires : tie.Need-total-requires
 total-requires c κs = (omega arith, sym (c .before .all .ensures) ∙ c .if2 .taken)
 
 add-new : tie.Need-add-new
-add-new c = search fits
+add-new c = let few : c .total .result ≤ 150000 = search small in omega arith
 
 new-requires : tie.Need-new-requires
 new-requires c κs = search needs
