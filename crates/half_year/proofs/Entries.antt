@@ -1,73 +1,48 @@
--- The square rule of a table of half-year factors, at all of its entries, from one test that is computed. The table is a
--- list of pages of 50 rates. Assumes nothing.
-use mathlib.Core.Path.{_≡_, _∙_, subst, sym}
-use mathlib.Core.Bool.{Bool, true, false}
+-- The square rule of a page of half-year factors, at all of its entries, from one test that is computed. A page has 50 rates.
+-- Assumes nothing.
+use mathlib.Core.Path.{_≡_, _∙_, ap, subst, sym}
+use mathlib.Core.Bool.{Bool, true, _&&_}
 use mathlib.Core.List.{List, [], _∷_}
 use Prim.Native.Nat.{ℕ, zero, suc, _+_, _*_, _<_, _≤_}
-use native.Mathlib.Nat.{add-zero, zero-add, add-suc, suc-add, le-of-suc-le-suc, not-suc-le-zero}
+use native.Mathlib.Nat.{add-zero, add-suc, suc-add, le-of-suc-le-suc, not-suc-le-zero}
 use native.Mathlib.Omega.{arith}
-use lib.Dec.{T, leb, ltb, leb→le, ltb→lt}
+use borrow.Author.Tests.{leb-true, ltb-true}
+use lib.Dec.{leb, ltb}
 use lib.ListN.{length, getD}
 use Rattle.model.specs.HalfYear.{squareLimit, IsHalfYear}
 use Rattle.model.proofs.HalfYear.{largest-of}
+use Rattle.model.proofs.Lists.{and-left, and-right}
+use Rattle.half_year.specs.Page.{IsPage}
 
-abbrev both : Bool → Bool → Bool
-both true b = b
-both false b = false
+-- the test of one entry: x stands at the rate k
+abbrev pub right : ℕ → ℕ → Bool
+right k x = leb (x * x * (10000 + k)) squareLimit && ltb squareLimit ((x + 1) * (x + 1) * (10000 + k))
 
-both-left : (a b : Bool) → T (both a b) → T a
-both-left true b t = tt
-both-left false b t = t
+-- the test of each entry, where the first stands at the rate i
+abbrev pub allRight : ℕ → List ℕ → Bool
+allRight i [] = true
+allRight i (x ∷ xs) = right i x && allRight (suc i) xs
 
-both-right : (a b : Bool) → T (both a b) → T b
-both-right true b t = t
-both-right false b t = absurd t
+from : (xs : List ℕ) (i : ℕ) → allRight i xs ≡ true → (k : ℕ) → k < length xs → right (i + k) (getD xs k 0) ≡ true
+from [] i t k h = absurd (not-suc-le-zero h)
+from (x ∷ xs) i t zero h = rw (add-zero i) (and-left (right i x) (allRight (suc i) xs) t)
+from (x ∷ xs) i t (suc k) h =
+    subst (λ (m : ℕ). right m (getD xs k 0) ≡ true) (suc-add i k ∙ sym (add-suc i k))
+    (from xs (suc i) (and-right (right i x) (allRight (suc i) xs) t) k (le-of-suc-le-suc h))
 
--- the test passes at each entry of the list and its place, counted from i
-abbrev every : {A : Type 0} → (ℕ → A → Bool) → ℕ → List A → Bool
-every test i [] = true
-every test i (x ∷ xs) = both (test i x) (every test (suc i) xs)
+-- an entry that passes the test has the square rule of its rate
+pub entry-of : (k rate x : ℕ) → rate ≡ k → right k x ≡ true → IsHalfYear (10000 + rate) x
+entry-of k rate x e t =
+    let low : Bool = leb (x * x * (10000 + k)) squareLimit in
+    let high : Bool = ltb squareLimit ((x + 1) * (x + 1) * (10000 + k)) in
+    rw e (largest-of (10000 + k) x (leb-true _ _ (and-left low high t)) (ltb-true _ _ (and-right low high t)))
 
-from : {A : Type 0} (test : ℕ → A → Bool) (d : A) (xs : List A) (i : ℕ) → T (every test i xs) → (k : ℕ) → k < length xs
-    → T (test (i + k) (getD xs k d))
-from test d [] i t k h = absurd (not-suc-le-zero h)
-from test d (x ∷ xs) i t zero h = subst (λ (m : ℕ). T (test m x)) (sym (add-zero i)) (both-left (test i x) (every test (suc i) xs) t)
-from test d (x ∷ xs) i t (suc k) h =
-    subst (λ (m : ℕ). T (test m (getD xs k d))) (suc-add i k ∙ sym (add-suc i k))
-    (from test d xs (suc i) (both-right (test i x) (every test (suc i) xs) t) k (le-of-suc-le-suc h))
-
--- the test of one entry
-abbrev right : ℕ → ℕ → Bool
-right k x = both (leb (x * x * (10000 + k)) squareLimit) (ltb squareLimit ((x + 1) * (x + 1) * (10000 + k)))
-
--- the test of one page: that of each of its entries
-abbrev rightPage : ℕ → List ℕ → Bool
-rightPage n xs = every right (50 * n) xs
-
--- the test of the whole table
-abbrev pub rightTable : List (List ℕ) → Bool
-rightTable ps = every rightPage 0 ps
-
--- a page with an entry is a page of the table
-in-table : (ps : List (List ℕ)) (n k : ℕ) → k < length (getD ps n []) → n < length ps
-in-table [] n k h = absurd (not-suc-le-zero h)
-in-table (p ∷ ps) zero k h = omega arith
-in-table (p ∷ ps) (suc n) k h =
-    let g : n < length ps = in-table ps n k h in
-    omega (arith, g)
-
--- entry k of page n has the square rule of its rate
-pub rule : (ps : List (List ℕ)) → T (rightTable ps) → (n k : ℕ) → k < length (getD ps n [])
-    → IsHalfYear (10000 + (50 * n + k)) (getD (getD ps n []) k 0)
-rule ps t n k h =
-    let xs : List ℕ = getD ps n [] in
-    let x : ℕ = getD xs k 0 in
-    let i : ℕ = 50 * n in
-    let low : Bool = leb (x * x * (10000 + (i + k))) squareLimit in
-    let high : Bool = ltb squareLimit ((x + 1) * (x + 1) * (10000 + (i + k))) in
-    let p : T (rightPage n xs) = subst (λ (m : ℕ). T (rightPage m xs)) (zero-add n) (from rightPage [] ps 0 t n (in-table ps n k h)) in
-    let r : T (right (i + k) x) = from right 0 xs i p k h in
-    largest-of (10000 + (i + k)) x (leb→le _ _ (both-left low high r)) (ltb→lt _ _ (both-right low high r))
+-- so has each entry of a page that passes its test, where n is the number of the page
+pub page-of : (n number : ℕ) (xs : List ℕ) → number ≡ n → length xs ≡ 50 → allRight (50 * n) xs ≡ true → IsPage number xs
+page-of n number xs e l t =
+    record {
+      rule = λ k h. entry-of (50 * n + k) (50 * number + k) (getD xs k 0) (ap (λ (m : ℕ). 50 * m + k) e) (from xs (50 * n) t k (omega (arith, l, h)));
+    }
 
 -- n is none of the m numbers from i
 abbrev pub NoneFrom : ℕ → ℕ → ℕ → Type 0

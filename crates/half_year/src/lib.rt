@@ -3,10 +3,10 @@ mod table;
 
 use kinds::rate::Rate;
 ghost use mathlib.Core.Path.{_≡_};
-ghost use Prim.Native.Nat.{ℕ, _+_, _*_, _<_, _≤_};
-ghost use lib.ListN.{getD};
+ghost use Prim.Native.Nat.{_+_, _<_, _≤_};
 ghost use Rattle.model.specs.HalfYear.{IsHalfYear, halfYear};
 ghost use Rattle.kinds.specs.Rate.{rateNumber};
+ghost use Rattle.half_year.specs.Page.{IsPage};
 
 // The half-year factor of a rate.
 pub fn half_year(rate: Rate) -> u64
@@ -35,7 +35,7 @@ fn entry(rate: usize) -> u64
 // The page of that number, at the rates below 1250.
 fn lower_page(number: usize) -> [u64; 50]
     requires { ⌜ number < 25 ⌝ }
-    ensures { λ r. ⌜ ((k : ℕ) → k < 50 → IsHalfYear (10000 + (50 * number + k)) (getD r k 0)) ⌝ }
+    ensures { λ r. ⌜ IsPage number r ⌝ }
 {
     match number {
         0 => table::FROM_0,
@@ -69,7 +69,7 @@ fn lower_page(number: usize) -> [u64; 50]
 // The page of that number, at the rates from 1250 to 2499.
 fn upper_page(number: usize) -> [u64; 50]
     requires { ⌜ (25 ≤ number) × (number < 50) ⌝ }
-    ensures { λ r. ⌜ ((k : ℕ) → k < 50 → IsHalfYear (10000 + (50 * number + k)) (getD r k 0)) ⌝ }
+    ensures { λ r. ⌜ IsPage number r ⌝ }
 {
     match number {
         25 => table::FROM_1250,

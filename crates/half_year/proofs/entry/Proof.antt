@@ -1,21 +1,21 @@
 -- `half_year::entry` meets its contract: the entry of a rate stands on the page of its rate. Assumes nothing.
-use mathlib.Core.Path.{_≡_, subst}
-use mathlib.Core.List.{List, []}
-use Prim.Native.Nat.{ℕ, _+_, _*_, _<_, _/_, _%_}
+use mathlib.Core.Path.{_≡_, refl, subst}
+use mathlib.Core.List.{List}
+use Prim.Native.Nat.{ℕ, _+_, _*_, _/_, _%_}
 use native.Mathlib.Omega.{arith}
 use lib.ListN.{getD}
 use borrow.Author.Needs.{needs}
 use Rattle.model.specs.HalfYear.{IsHalfYear}
-use Rattle.half_year.proofs.Pages.{pages, on-page}
+use Rattle.half_year.specs.Page.{IsPage}
+use Rattle.half_year.proofs.Entries.{entry-of}
 use Rattle.half_year.proofs.entry.Statement.{statement}
 use Rattle.half_year.proofs.entry.Tie as tie
 
 -- from the entries of the rate's page to the entry of the rate
-of-rate : (rate : ℕ) (xs : List ℕ) → ((k : ℕ) → k < 50 → IsHalfYear (10000 + (50 * (rate / 50) + k)) (getD xs k 0))
-    → IsHalfYear (10000 + rate) (getD xs (rate % 50) 0)
+of-rate : (rate : ℕ) (xs : List ℕ) → IsPage (rate / 50) xs → IsHalfYear (10000 + rate) (getD xs (rate % 50) 0)
 of-rate rate xs h =
     let e : 50 * (rate / 50) + rate % 50 ≡ rate = omega arith in
-    subst (λ (m : ℕ). IsHalfYear (10000 + m) (getD xs (rate % 50) 0)) e (h (rate % 50) (omega arith))
+    subst (λ (m : ℕ). IsHalfYear (10000 + m) (getD xs (rate % 50) 0)) e (h .rule (rate % 50) (omega arith))
 
 lower-page-requires : tie.Need-lower-page-requires
 lower-page-requires c κs = search needs
@@ -45,10 +45,7 @@ array-read-result-3 : tie.Need-array-read-result-3
 array-read-result-3 c = search needs
 
 returns-3 : tie.Need-returns-3
-unfolding pages
-returns-3 c =
-    let e : 50 * 50 + 0 ≡ c .before .before .args .rate = omega arith in
-    subst (λ (m : ℕ). IsHalfYear (10000 + m) (getD (getD pages 50 []) 0 0)) e (on-page 50 0 (omega arith))
+returns-3 c = entry-of 2500 _ _ (omega arith) refl
 
 pub entry-spec : {M : Type 1} → statement M
 entry-spec =
