@@ -180,9 +180,6 @@ module _ (s : List ℕ) (falls t : Bool) (ef : falls ≡ true) (et : t ≡ hasMi
           let l : n .length ≡ length (before (drop 1 s)) = rw (rest-whole s 1, first-field (drop 1 s)) at (h .long e) in
           rw (first-field s) (omega (arith, after-minus s (sym et ∙ t1) .1))
 
-      fits : n .length + 1 ≤ length s
-      fits = omega (arith, long, ap length (first-field s), before-le s)
-
       below : 0 < n .size → Reads falls (field 0 (fields s)) record { right = true; minus = true; size = n .size; length = n .length + 1 }
       below lt =
           record {
@@ -192,6 +189,11 @@ module _ (s : List ℕ) (falls t : Bool) (ef : falls ≡ true) (et : t ≡ hasMi
             long = λ q. long;
             none = λ q. absurd (false≢true (sym q));
           }
+
+    -- a field that is not well written has length 0
+    fits : (t : Bool) → n .right ≡ t → n .length + 1 ≤ length s
+    fits true q = omega (arith, long q, ap length (first-field s), before-le s)
+    fits false q = omega (arith, ap (λ (r : Reading). r .length) (h .none q), minus-some s (sym et ∙ t1))
 
 none-by : (s : List ℕ) (falls t : Bool) (l : ℕ) → hasMinus s ≡ t → l ≡ (if falls then (if t then 1 else 0) else 0) → l ≡ 0 → (r : Reading) → Reads false (field 0 (fields s)) r → Reads falls (field 0 (fields s)) r
 none-by s true true l q e z r h = absurd (omega arith)
@@ -210,8 +212,8 @@ module _ (s : List ℕ) (falls : Bool) (l : ℕ) (el : l ≡ signLength falls s)
     after : Reads false (field 0 (fields (take (length s - 1) (drop 1 s)))) n
     after = rw (told .2) at h
 
-    pub signed-fits : 0 < n .size → n .length + 1 ≤ length s
-    signed-fits lt = fits s falls (hasMinus s) (told .0) refl (told .1) n after (some s falls (hasMinus s) (told .0) refl (told .1) n after lt)
+    pub signed-fits : n .length + 1 ≤ length s
+    signed-fits = fits s falls (hasMinus s) (told .0) refl (told .1) n after (n .right) refl
 
     pub signed-minus : 0 < n .size → Reads falls (field 0 (fields s)) record { right = true; minus = true; size = n .size; length = n .length + 1 }
     signed-minus lt = below s falls (hasMinus s) (told .0) refl (told .1) n after (some s falls (hasMinus s) (told .0) refl (told .1) n after lt) lt
