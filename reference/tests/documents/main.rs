@@ -1,0 +1,72 @@
+//! The documents say what is in the tree: every path, theorem, definition,
+//! must-fail edit, function, test and line of a stored run that they name is
+//! there. The forms are those of CHECKLIST's first paragraph.
+
+mod citations;
+mod functions;
+mod stored_lines;
+mod text;
+mod tree;
+
+use text::Line;
+
+/// The documents that are held to the tree.
+const DOCUMENTS: [&str; 3] = ["README.md", "docs/ARCHITECTURE.md", "docs/CHECKLIST.md"];
+
+/// What one check finds wrong in all lines of the documents.
+fn find_none(check: fn(&Line) -> Vec<String>) {
+    let mut wrong = Vec::new();
+    for document in DOCUMENTS {
+        for line in text::lines(document) {
+            let found = check(&line).into_iter();
+            wrong.extend(found.map(|what| format!("{document}:{}: {what}", line.number)));
+        }
+    }
+    assert!(wrong.is_empty(), "\n{}\n", wrong.join("\n"));
+}
+
+#[test]
+fn every_path_and_every_edit_is_there() {
+    find_none(citations::paths);
+}
+
+#[test]
+fn every_name_is_declared_in_its_file() {
+    find_none(citations::names);
+}
+
+#[test]
+fn every_test_is_there() {
+    find_none(citations::tests);
+}
+
+#[test]
+fn every_cited_line_of_a_stored_run_is_what_is_quoted() {
+    find_none(stored_lines::quotes);
+}
+
+#[test]
+fn every_listed_function_is_public_and_has_two_edits() {
+    find_none(functions::rows);
+}
+
+#[test]
+fn every_public_function_is_listed() {
+    let missing = functions::missing(&text::lines("docs/CHECKLIST.md"));
+    let wrong = missing.join("\n");
+    assert!(
+        wrong.is_empty(),
+        "docs/CHECKLIST.md does not list\n{wrong}\n"
+    );
+}
+
+/// The first line of an edit says what the wrong program does.
+#[test]
+fn every_edit_begins_with_a_comment() {
+    for name in tree::crates() {
+        for path in tree::files(&format!("crates/{name}/must-fail")) {
+            let begins = tree::read(&path).starts_with("# ");
+            assert!(begins, "{} does not begin with '# '", tree::shown(&path));
+        }
+    }
+}
