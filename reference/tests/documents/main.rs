@@ -11,10 +11,17 @@ mod tree;
 use text::Line;
 
 /// The documents that are held to the tree.
-const DOCUMENTS: [&str; 3] = ["README.md", "docs/ARCHITECTURE.md", "docs/CHECKLIST.md"];
+const DOCUMENTS: [&str; 6] = [
+    "README.md",
+    "docs/ARCHITECTURE.md",
+    "docs/CHECKLIST.md",
+    "docs/DECISIONS.md",
+    "docs/SPEED.md",
+    "docs/WHY.md",
+];
 
-/// What one check finds wrong in all lines of the documents.
-fn find_none(check: fn(&Line) -> Vec<String>) {
+/// Fails with all that a check finds wrong in the documents.
+fn assert_right(check: fn(&Line) -> Vec<String>) {
     let mut wrong = Vec::new();
     for document in DOCUMENTS {
         for line in text::lines(document) {
@@ -27,27 +34,27 @@ fn find_none(check: fn(&Line) -> Vec<String>) {
 
 #[test]
 fn every_path_and_every_edit_is_there() {
-    find_none(citations::paths);
+    assert_right(citations::paths);
 }
 
 #[test]
 fn every_name_is_declared_in_its_file() {
-    find_none(citations::names);
+    assert_right(citations::names);
 }
 
 #[test]
 fn every_test_is_there() {
-    find_none(citations::tests);
+    assert_right(citations::tests);
 }
 
 #[test]
 fn every_cited_line_of_a_stored_run_is_what_is_quoted() {
-    find_none(stored_lines::quotes);
+    assert_right(stored_lines::quotes);
 }
 
 #[test]
 fn every_listed_function_is_public_and_has_two_edits() {
-    find_none(functions::rows);
+    assert_right(functions::rows);
 }
 
 #[test]
