@@ -3,89 +3,106 @@
 use crate::text::{codes, Line};
 use crate::tree;
 
-/// The public functions of a file of a module, each after its type.
-fn functions_in(text: &str) -> Vec<String> {
-    let mut owner = String::new();
-    let mut functions = Vec::new();
+/// A function as it is called, and whether it has a `requires`.
+type Function = (String, bool);
+
+/// The type of "impl Rate {" or "impl<'a> Reader<'a> {".
+fn owner_of(line: &str) -> Option<String> {
+    let mut words = line.strip_prefix("impl")?.split([' ', '{']);
+    let name = words.find(|word| !word.is_empty() && !word.starts_with('<'))?;
+    Some(format!("{}::", name.split('<').next()?))
+}
+
+/// The public functions of a module's text, each after its type.
+fn functions_in(text: &str) -> Vec<Function> {
+    let (mut owner, mut is_public) = (String::new(), false);
+    let mut functions: Vec<Function> = Vec::new();
     for line in text.lines() {
-        if let Some(name) = line.strip_prefix("impl ") {
-            owner = name
-                .split([' ', '{'])
-                .next()
-                .map_or(String::new(), |name| format!("{name}::"));
-        } else if line.starts_with('}') {
-            owner.clear();
-        } else if let Some(after) = line.trim_start().strip_prefix("pub fn ") {
+        let inner = line.trim_start();
+        if line.starts_with("impl") || line.starts_with('}') {
+            owner = owner_of(line).unwrap_or_default();
+        } else if let Some(after) = inner.strip_prefix("pub fn ") {
             let name = after.split(['(', '<']).next().unwrap_or(after);
-            functions.push(format!("{owner}{name}"));
+            functions.push((format!("{owner}{name}"), false));
+            is_public = true;
+        } else if inner.starts_with("fn ") {
+            is_public = false;
+        } else if let Some(last) = functions.last_mut().filter(|_| is_public) {
+            last.1 |= inner.starts_with("requires");
         }
     }
     functions
 }
 
-/// A public function is a `pub fn` of a public module, as it is called.
-fn public_functions(name: &str) -> Vec<String> {
-    let source =
-        |module: &str| tree::read(&tree::root().join(format!("crates/{name}/src/{module}.rt")));
-    if !tree::root()
-        .join(format!("crates/{name}/src/lib.rt"))
-        .is_file()
-    {
-        return Vec::new();
-    }
-    let lib = source("lib");
+/// A public function is a `pub fn` of a public module.
+fn public_functions(name: &str) -> Vec<Function> {
+    let source = |module: &str| {
+        let path = tree::root().join(format!("crates/{name}/src/{module}.rt"));
+        Some(path)
+            .filter(|path| path.is_file())
+            .map(|path| tree::read(&path))
+    };
+    let lib = source("lib").unwrap_or_default();
     let mut functions = functions_in(&lib);
     for line in lib.lines() {
+        let line = line.trim_end_matches(['}', ';']);
         if let Some(module) = line.strip_prefix("pub mod ") {
-            let module = module.trim_end_matches(';');
-            let inner = functions_in(&source(module));
-            functions.extend(inner.iter().map(|function| format!("{module}::{function}")));
-        } else if let Some((module, function)) = line
+            let inner = functions_in(&source(module).unwrap_or_default()).into_iter();
+            functions.extend(inner.map(|(name, requires)| (format!("{module}::{name}"), requires)));
+        } else if let Some((module, used)) = line
             .strip_prefix("pub use ")
             .and_then(|used| used.split_once("::"))
         {
-            let function = function.trim_end_matches(';').to_string();
-            functions.extend(Some(function).filter(|f| functions_in(&source(module)).contains(f)));
+            let used: Vec<&str> = used.trim_start_matches('{').split(", ").collect();
+            let inner = functions_in(&source(module).unwrap_or_default()).into_iter();
+            functions.extend(inner.filter(|(name, _)| used.contains(&name.as_str())));
         }
     }
     functions
 }
 
-fn is_row(line: &Line) -> bool {
-    tree::is_crate(&line.section)
-        && line.header.first().is_some_and(|title| title == "function")
-        && !line.text.starts_with("|--")
+/// The crate and the function of a row.
+fn listed(line: &Line) -> Option<(String, String)> {
+    let cell = line
+        .cell("function")
+        .filter(|_| tree::is_crate(&line.section))?;
+    Some((line.section.clone(), codes(&cell).first()?.to_string()))
 }
 
-/// The function of a row, and the crate that has it.
-fn listed(line: &Line) -> Option<(String, String)> {
-    let cell = line.cell("function").filter(|_| is_row(line))?;
-    Some((line.section.clone(), codes(&cell).first()?.to_string()))
+/// The labels of a row are edits, two at least, or stored runs.
+fn wrong_labels(line: &Line) -> Vec<String> {
+    let cell = line.cell("wrong answers").unwrap_or_default();
+    let labels = codes(&cell);
+    if cell.starts_with("stored runs: ") {
+        let stdout = |run: &str| tree::root().join(format!("crates/{run}/stdout"));
+        let missing = labels.iter().filter(|run| !stdout(run).is_file());
+        return missing
+            .map(|run| format!("{run} has no stored run"))
+            .collect();
+    }
+    let few = Some("fewer than two edits".to_string()).filter(|_| labels.len() < 2);
+    let missing = labels
+        .iter()
+        .filter(|label| !tree::edit(&line.section, label).is_file());
+    let missing = missing.map(|label| format!("there is no edit {}/{label}", line.section));
+    missing.chain(few).collect()
 }
 
 pub fn rows(line: &Line) -> Vec<String> {
     let Some((name, function)) = listed(line) else {
         return Vec::new();
     };
-    let mut wrong = Vec::new();
-    if !public_functions(&name).contains(&function) {
-        wrong.push(format!("{name} has no public function {function}"));
-    }
-    let cell = line.cell("wrong answers").unwrap_or_default();
-    let labels = codes(&cell);
-    if cell.starts_with("stored runs: ") {
-        let missing = labels
-            .iter()
-            .filter(|run| !tree::root().join(format!("crates/{run}/stdout")).is_file());
-        wrong.extend(missing.map(|run| format!("{run} has no stored run")));
-        return wrong;
-    }
-    let missing = labels
+    let mut wrong = wrong_labels(line);
+    let said = line.cell("requires") != Some("none".to_string());
+    match public_functions(&name)
         .iter()
-        .filter(|label| !tree::edit(&name, label).is_file());
-    wrong.extend(missing.map(|label| format!("there is no edit {name}/{label}")));
-    if labels.len() < 2 {
-        wrong.push(format!("{function} has fewer than two edits"));
+        .find(|known| known.0 == function)
+    {
+        None => wrong.push(format!("{name} has no public function {function}")),
+        Some((_, requires)) if *requires != said => {
+            wrong.push(format!("what {function} requires is not what is said"));
+        }
+        Some(_) => {}
     }
     wrong
 }
@@ -93,14 +110,12 @@ pub fn rows(line: &Line) -> Vec<String> {
 /// The public functions that no row lists.
 pub fn missing(lines: &[Line]) -> Vec<String> {
     let listed: Vec<(String, String)> = lines.iter().filter_map(listed).collect();
-    let all = tree::crates().iter().flat_map(|name| {
+    let mut missing = Vec::new();
+    for name in tree::crates() {
         let functions = public_functions(name).into_iter();
-        functions
-            .map(move |function| (name.clone(), function))
-            .collect::<Vec<_>>()
-    });
-    let missing = all.filter(|function| !listed.contains(function));
+        let all = functions.map(|(function, _)| (name.clone(), function));
+        let unlisted = all.filter(|function| !listed.contains(function));
+        missing.extend(unlisted.map(|(name, function)| format!("{name}: {function}")));
+    }
     missing
-        .map(|(name, function)| format!("{name}: {function}"))
-        .collect()
 }
