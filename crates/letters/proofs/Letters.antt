@@ -6,7 +6,7 @@ use mathlib.Core.Logic.{⊎-elim}
 use Prim.Native.Nat.{ℕ, zero, suc, _<_, _≤_}
 use native.Mathlib.Omega.{arith}
 use native.Mathlib.Nat.{eq-or-lt-of-le, le-of-suc-le-suc}
-use borrow.Author.Tests.{ne-eqb, lt-ltb, le-ltb}
+use borrow.Author.Tests.{ne-eqb, lt-ltb, le-ltb, le-leb, lt-leb}
 use lib.Dec.{eqb, leb, ltb}
 use Rattle.model.specs.Basics.{if_then_else_}
 use Rattle.model.proofs.Lists.{and-left, and-right}
@@ -60,6 +60,20 @@ pub up-to-h : (b : ℕ) → b < 256 → (b ≡ 82 → ⊥) → 65 ≤ b → leb 
 up-to-h b lt n l = third-case (eqb b 82) (ltb b 65) (leb b 72) (tenYear b) (ten-year b lt) (ne-eqb b 82 n) (le-ltb b 65 l)
 
 -- from A to L, or from R to T
-pub is-covered : (b : ℕ) → b < 256 → (if ltb b 65 then false else (if leb b 76 then true else (if ltb b 82 then false else leb b 84))) ≡ covered b
+is-covered : (b : ℕ) → b < 256 → (if ltb b 65 then false else (if leb b 76 then true else (if ltb b 82 then false else leb b 84))) ≡ covered b
 unfolding agreeBelow tenYear twoYear
 is-covered b lt = agree (λ x. if ltb x 65 then false else (if leb x 76 then true else (if ltb x 82 then false else leb x 84))) covered 256 refl b lt
+
+-- its four cases
+module _ (b : ℕ) (lt : b < 256) where
+  pub before-a : b < 65 → false ≡ covered b
+  before-a l = rw (lt-ltb b 65 l) at (is-covered b lt)
+
+  pub from-a-to-l : 65 ≤ b → b ≤ 76 → true ≡ covered b
+  from-a-to-l a l = rw (le-ltb b 65 a, le-leb b 76 l) at (is-covered b lt)
+
+  pub from-m-to-q : 65 ≤ b → 76 < b → b < 82 → false ≡ covered b
+  from-m-to-q a m r = rw (le-ltb b 65 a, lt-leb b 76 m, lt-ltb b 82 r) at (is-covered b lt)
+
+  pub from-r : 65 ≤ b → 76 < b → 82 ≤ b → leb b 84 ≡ covered b
+  from-r a m r = rw (le-ltb b 65 a, lt-leb b 76 m, le-ltb b 82 r) at (is-covered b lt)
