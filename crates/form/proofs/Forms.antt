@@ -5,13 +5,13 @@ use mathlib.Core.Path.{_≡_}
 use Prim.Native.Nat.{ℕ, _%_}
 use lib.Dec.{eqb}
 use Rattle.model.specs.Letter.{tenYear, covered}
-use Rattle.model.specs.Record.{fieldCount, mayFall}
+use Rattle.model.specs.Record.{fieldCount, allowsMinus}
 use Rattle.form.specs.Word.{named, isLettered}
 use Rattle.form.specs.declared.word.Word.{Word}
 use Rattle.form.specs.declared.word.Word.the-variants.{Line, Patt, Year}
 
-pub fall-year : (word : Word) (k : ℕ) → word ≡ Year → eqb (k % 3) 0 ≡ mayFall (named word) k
-fall-year word k e = rw e
+pub minus-year : (word : Word) (k : ℕ) → word ≡ Year → eqb (k % 3) 0 ≡ allowsMinus (named word) k
+minus-year word k e = rw e
 
 module _ (word : Word) (letter : ℕ) (t : Bool) (et : t ≡ tenYear letter) where
   pub patt-ten : word ≡ Patt → t ≡ true → 23 ≡ fieldCount (named word) letter

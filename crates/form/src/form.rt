@@ -1,8 +1,8 @@
-// The form of a record of each word: how many fields it has, where its numbers begin, and which of them may be below zero.
+// The form of a record of each word: how many fields it has, where its numbers begin, and which of them may have a minus sign.
 use crate::word::Word;
 use letters::letter::is_ten_year;
 ghost use mathlib.Core.Path.{_≡_};
-ghost use Rattle.model.specs.Record.{fieldCount, firstNumber, mayFall};
+ghost use Rattle.model.specs.Record.{fieldCount, firstNumber, allowsMinus};
 ghost use Rattle.form.specs.Word.{named};
 
 // "RATE, year, sixty rates: 62 fields." "PATT ..: 23 or 7 fields." "YEAR ..: 36 or 12 fields."
@@ -42,8 +42,8 @@ pub fn first_number(word: Word) -> usize
 }
 
 // "a minus sign is allowed only before a nonzero paid in YEAR": paid stands at places 3, 6, 9 ..
-pub fn may_fall(word: Word, place: usize) -> bool
-    ensures { λ r. ⌜ r ≡ mayFall (named word) place ⌝ }
+pub fn allows_minus(word: Word, place: usize) -> bool
+    ensures { λ r. ⌜ r ≡ allowsMinus (named word) place ⌝ }
 {
     match word {
         Word::Line => false,

@@ -27,22 +27,22 @@ minus-some [] e = absurd (false≢true e)
 minus-some (b ∷ bs) e = omega arith
 
 -- the sign at the front
-pub sign-one : (falls : Bool) (s : List ℕ) (t : Bool) → falls ≡ true → t ≡ hasMinus s → t ≡ true → 1 ≡ signLength falls s
-sign-one falls s t ef et q = rw (ef, ← et, q)
+pub sign-one : (minusAllowed : Bool) (s : List ℕ) (t : Bool) → minusAllowed ≡ true → t ≡ hasMinus s → t ≡ true → 1 ≡ signLength minusAllowed s
+sign-one minusAllowed s t ef et q = rw (ef, ← et, q)
 
-pub sign-none : (falls : Bool) (s : List ℕ) (t : Bool) → falls ≡ true → t ≡ hasMinus s → t ≡ false → 0 ≡ signLength falls s
-sign-none falls s t ef et q = rw (ef, ← et, q)
+pub sign-none : (minusAllowed : Bool) (s : List ℕ) (t : Bool) → minusAllowed ≡ true → t ≡ hasMinus s → t ≡ false → 0 ≡ signLength minusAllowed s
+sign-none minusAllowed s t ef et q = rw (ef, ← et, q)
 
-fits-by : (falls : Bool) (s : List ℕ) (t : Bool) (n : ℕ) → hasMinus s ≡ t → n ≡ (if falls then (if t then 1 else 0) else 0) → n ≤ length s
+fits-by : (minusAllowed : Bool) (s : List ℕ) (t : Bool) (n : ℕ) → hasMinus s ≡ t → n ≡ (if minusAllowed then (if t then 1 else 0) else 0) → n ≤ length s
 fits-by true s true n q e = omega (arith, minus-some s q)
 fits-by true s false n q e = omega arith
 fits-by false s t n q e = omega arith
 
-pub sign-fits : (falls : Bool) (s : List ℕ) (n : ℕ) → n ≡ signLength falls s → n ≤ length s
-sign-fits falls s n e = fits-by falls s (hasMinus s) n refl e
+pub sign-fits : (minusAllowed : Bool) (s : List ℕ) (n : ℕ) → n ≡ signLength minusAllowed s → n ≤ length s
+sign-fits minusAllowed s n e = fits-by minusAllowed s (hasMinus s) n refl e
 
 -- it is there just where it is allowed and the rest begins with one
-told-by : (falls t : Bool) (n : ℕ) → n ≡ (if falls then (if t then 1 else 0) else 0) → (n ≡ 0 → ⊥) → (falls ≡ true) × (t ≡ true) × (n ≡ 1)
+told-by : (minusAllowed t : Bool) (n : ℕ) → n ≡ (if minusAllowed then (if t then 1 else 0) else 0) → (n ≡ 0 → ⊥) → (minusAllowed ≡ true) × (t ≡ true) × (n ≡ 1)
 told-by true true n e z = (refl, refl, e)
 told-by true false n e z = absurd (z e)
 told-by false t n e z = absurd (z e)
@@ -83,8 +83,8 @@ no-minus-by f true e p = sym (plain-minus f e) ∙ p
 no-minus-by f false e p = refl
 
 -- a field that is not well written
-pub none-read : (falls : Bool) (f : List ℕ) (r : Reading) → false ≡ isWritten falls f → r ≡ noNumber → Reads falls f r
-none-read falls f r e q =
+pub none-read : (minusAllowed : Bool) (f : List ℕ) (r : Reading) → false ≡ isWritten minusAllowed f → r ≡ noNumber → Reads minusAllowed f r
+none-read minusAllowed f r e q =
     let wrong : r .right ≡ false = rw q in
     record {
       written = wrong ∙ e;
@@ -137,21 +137,21 @@ nonzero-by n false e = lt-ltb 0 (min n most) (omega (arith, eqb-false n 0 e))
 nonzero : (n : ℕ) → ltb 0 (min n most) ≡ not (eqb n 0)
 nonzero n = nonzero-by n (eqb n 0) refl
 
-module _ (s : List ℕ) (falls t : Bool) (ef : falls ≡ true) (et : t ≡ hasMinus s) where
+module _ (s : List ℕ) (minusAllowed t : Bool) (ef : minusAllowed ≡ true) (et : t ≡ hasMinus s) where
   sign : hasMinus (field 0 (fields s)) ≡ t
   sign = ap hasMinus (first-field s) ∙ same-minus s ∙ sym et
 
-  plus : t ≡ false → (r : Reading) → Reads false (field 0 (fields s)) r → Reads falls (field 0 (fields s)) r
+  plus : t ≡ false → (r : Reading) → Reads false (field 0 (fields s)) r → Reads minusAllowed (field 0 (fields s)) r
   plus t0 r h =
-      let w : isWritten falls (field 0 (fields s)) ≡ isWritten false (field 0 (fields s)) =
-      written-plain falls (field 0 (fields s)) (sign ∙ t0) ∙ sym (written-never (field 0 (fields s))) in
+      let w : isWritten minusAllowed (field 0 (fields s)) ≡ isWritten false (field 0 (fields s)) =
+      written-plain minusAllowed (field 0 (fields s)) (sign ∙ t0) ∙ sym (written-never (field 0 (fields s))) in
       record { written = h .written ∙ sym w; sign = h .sign; value = h .value; long = h .long; none = h .none }
 
   module _ (t1 : t ≡ true) (n : Reading) (h : Reads false (field 0 (fields (take (length s - 1) (drop 1 s)))) n) where
     part : field 0 (fields (take (length s - 1) (drop 1 s))) ≡ drop 1 (field 0 (fields s))
     part = rw (rest-whole s 1, first-field (drop 1 s), first-field s) (sym (after-minus s (sym et ∙ t1) .0))
 
-    written : isWritten falls (field 0 (fields s)) ≡ (n .right && not (eqb (natural (drop 1 (field 0 (fields s)))) 0))
+    written : isWritten minusAllowed (field 0 (fields s)) ≡ (n .right && not (eqb (natural (drop 1 (field 0 (fields s)))) 0))
     written =
         let p : n .right ≡ isPlain (drop 1 (field 0 (fields s))) = rw (← part) (h .written ∙ written-never (field 0 (fields (take (length s - 1) (drop 1 s))))) in
         rw (ef, written-minus (field 0 (fields s)) (sign ∙ t1), p)
@@ -164,7 +164,7 @@ module _ (s : List ℕ) (falls t : Bool) (ef : falls ≡ true) (et : t ≡ hasMi
     some : 0 < n .size → n .right ≡ true
     some lt = right-by (n .right) refl lt
 
-    zero-by : (t : Bool) → n .right ≡ t → n .size ≡ 0 → false ≡ isWritten falls (field 0 (fields s))
+    zero-by : (t : Bool) → n .right ≡ t → n .size ≡ 0 → false ≡ isWritten minusAllowed (field 0 (fields s))
     zero-by true q z =
         let zero : capped (drop 1 (field 0 (fields s))) ≡ 0 = rw (← part) (sym (h .value q) ∙ z) in
         let none : eqb (natural (drop 1 (field 0 (fields s)))) 0 ≡ true = eq-eqb (natural (drop 1 (field 0 (fields s)))) 0 (omega arith) in
@@ -180,7 +180,7 @@ module _ (s : List ℕ) (falls t : Bool) (ef : falls ≡ true) (et : t ≡ hasMi
           let l : n .length ≡ length (before (drop 1 s)) = rw (rest-whole s 1, first-field (drop 1 s)) at (h .long e) in
           rw (first-field s) (omega (arith, after-minus s (sym et ∙ t1) .1))
 
-      below : 0 < n .size → Reads falls (field 0 (fields s)) record { right = true; minus = true; size = n .size; length = n .length + 1 }
+      below : 0 < n .size → Reads minusAllowed (field 0 (fields s)) record { right = true; minus = true; size = n .size; length = n .length + 1 }
       below lt =
           record {
             written = sym (written ∙ rw (e, ← (nonzero (natural (drop 1 (field 0 (fields s))))), ← size) (lt-ltb 0 (n .size) lt));
@@ -195,28 +195,28 @@ module _ (s : List ℕ) (falls t : Bool) (ef : falls ≡ true) (et : t ≡ hasMi
     fits true q = omega (arith, long q, ap length (first-field s), before-le s)
     fits false q = omega (arith, ap (λ (r : Reading). r .length) (h .none q), minus-some s (sym et ∙ t1))
 
-none-by : (s : List ℕ) (falls t : Bool) (l : ℕ) → hasMinus s ≡ t → l ≡ (if falls then (if t then 1 else 0) else 0) → l ≡ 0 → (r : Reading) → Reads false (field 0 (fields s)) r → Reads falls (field 0 (fields s)) r
+none-by : (s : List ℕ) (minusAllowed t : Bool) (l : ℕ) → hasMinus s ≡ t → l ≡ (if minusAllowed then (if t then 1 else 0) else 0) → l ≡ 0 → (r : Reading) → Reads false (field 0 (fields s)) r → Reads minusAllowed (field 0 (fields s)) r
 none-by s true true l q e z r h = absurd (omega arith)
 none-by s true false l q e z r h = plus s true false refl (sym q) refl r h
 none-by s false t l q e z r h = h
 
 -- a number read from after the sign on
-module _ (s : List ℕ) (falls : Bool) (l : ℕ) (el : l ≡ signLength falls s) (n : Reading) (h : Reads false (field 0 (fields (take (length s - l) (drop l s)))) n) where
-  pub signed-plus : l ≡ 0 → Reads falls (field 0 (fields s)) n
-  signed-plus z = none-by s falls (hasMinus s) l refl el z n (rw (z, rest-whole s 0) at h)
+module _ (s : List ℕ) (minusAllowed : Bool) (l : ℕ) (el : l ≡ signLength minusAllowed s) (n : Reading) (h : Reads false (field 0 (fields (take (length s - l) (drop l s)))) n) where
+  pub signed-plus : l ≡ 0 → Reads minusAllowed (field 0 (fields s)) n
+  signed-plus z = none-by s minusAllowed (hasMinus s) l refl el z n (rw (z, rest-whole s 0) at h)
 
   module _ (nz : l ≡ 0 → ⊥) where
-    told : (falls ≡ true) × (hasMinus s ≡ true) × (l ≡ 1)
-    told = told-by falls (hasMinus s) l el nz
+    told : (minusAllowed ≡ true) × (hasMinus s ≡ true) × (l ≡ 1)
+    told = told-by minusAllowed (hasMinus s) l el nz
 
     after : Reads false (field 0 (fields (take (length s - 1) (drop 1 s)))) n
     after = rw (told .2) at h
 
     pub signed-fits : n .length + 1 ≤ length s
-    signed-fits = fits s falls (hasMinus s) (told .0) refl (told .1) n after (n .right) refl
+    signed-fits = fits s minusAllowed (hasMinus s) (told .0) refl (told .1) n after (n .right) refl
 
-    pub signed-minus : 0 < n .size → Reads falls (field 0 (fields s)) record { right = true; minus = true; size = n .size; length = n .length + 1 }
-    signed-minus lt = below s falls (hasMinus s) (told .0) refl (told .1) n after (some s falls (hasMinus s) (told .0) refl (told .1) n after lt) lt
+    pub signed-minus : 0 < n .size → Reads minusAllowed (field 0 (fields s)) record { right = true; minus = true; size = n .size; length = n .length + 1 }
+    signed-minus lt = below s minusAllowed (hasMinus s) (told .0) refl (told .1) n after (some s minusAllowed (hasMinus s) (told .0) refl (told .1) n after lt) lt
 
-    pub signed-none : n .size ≤ 0 → (r : Reading) → r ≡ noNumber → Reads falls (field 0 (fields s)) r
-    signed-none z r e = none-read falls (field 0 (fields s)) r (zero-by s falls (hasMinus s) (told .0) refl (told .1) n after (n .right) refl (omega arith)) e
+    pub signed-none : n .size ≤ 0 → (r : Reading) → r ≡ noNumber → Reads minusAllowed (field 0 (fields s)) r
+    signed-none z r e = none-read minusAllowed (field 0 (fields s)) r (zero-by s minusAllowed (hasMinus s) (told .0) refl (told .1) n after (n .right) refl (omega arith)) e

@@ -22,9 +22,9 @@ capped f = min (natural f) most
 abbrev pub hasMinus : List ℕ → Bool
 hasMinus f = eqb (getD f 0 0) minus
 
--- how long the sign at the front is, where falls says whether a minus sign is allowed
+-- how long the sign at the front is, where minusAllowed says whether a minus sign is allowed
 abbrev pub signLength : Bool → List ℕ → ℕ
-signLength falls f = if falls then (if hasMinus f then 1 else 0) else 0
+signLength minusAllowed f = if minusAllowed then (if hasMinus f then 1 else 0) else 0
 
 -- the digits at the front
 abbrev pub leading : List ℕ → List ℕ
@@ -53,9 +53,9 @@ abbrev pub noNumber : Reading
 noNumber = record { right = false; minus = false; size = 0; length = 0 }
 
 -- "A number is digits without leading zeros ("0" alone is right); a minus sign is allowed only before a nonzero paid in YEAR.":
--- whether the field is that, where falls says whether a minus sign is allowed; and if so its sign, size and length, if not zeros
-pub record Reads (falls : Bool) (f : List ℕ) (r : Reading) : Type 0 where
-  pub written : r .right ≡ isWritten falls f
+-- whether the field is that, where minusAllowed says whether a minus sign is allowed; and if so its sign, size and length, if not zeros
+pub record Reads (minusAllowed : Bool) (f : List ℕ) (r : Reading) : Type 0 where
+  pub written : r .right ≡ isWritten minusAllowed f
   pub sign : r .right ≡ true → r .minus ≡ hasMinus f
   pub value : r .right ≡ true → r .size ≡ capped f
   pub long : r .right ≡ true → r .length ≡ length f

@@ -145,10 +145,10 @@ fn has_minus(rest: &[u8]) -> bool
 }
 
 // How long the sign at the front is: a byte where a minus sign is allowed and stands there.
-fn sign_length(rest: &[u8], falls: bool) -> usize
-    ensures { λ r. ⌜ r ≡ signLength falls (now (rest .entry)) ⌝ }
+fn sign_length(rest: &[u8], allowed: bool) -> usize
+    ensures { λ r. ⌜ r ≡ signLength allowed (now (rest .entry)) ⌝ }
 {
-    if falls {
+    if allowed {
         if has_minus(rest) {
             return 1;
         }
@@ -157,11 +157,11 @@ fn sign_length(rest: &[u8], falls: bool) -> usize
     0
 }
 
-// The number at the front, where `falls` says whether a minus sign is allowed.
-pub fn signed(rest: &[u8], falls: bool) -> Reading
-    ensures { λ r. ⌜ Reads falls (field 0 (fields (now (rest .entry)))) r ⌝ }
+// The number at the front, where `allowed` says whether a minus sign is allowed.
+pub fn signed(rest: &[u8], allowed: bool) -> Reading
+    ensures { λ r. ⌜ Reads allowed (field 0 (fields (now (rest .entry)))) r ⌝ }
 {
-    let sign = sign_length(rest, falls);
+    let sign = sign_length(rest, allowed);
     let number = unsigned(&rest[sign..]);
     if sign == 0 {
         return number;

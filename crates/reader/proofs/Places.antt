@@ -13,27 +13,27 @@ use Rattle.numbers.specs.Number.{noNumber, Reads}
 use Rattle.numbers.proofs.Signs.{none-read}
 use Rattle.numbers.specs.declared.number.Reading.{Reading}
 
-none-written : (falls : Bool) → isWritten falls (field 0 (fields [])) ≡ false
+none-written : (minusAllowed : Bool) → isWritten minusAllowed (field 0 (fields [])) ≡ false
 unfolding fields isWritten
-none-written falls = refl
+none-written minusAllowed = refl
 
 -- past the line's end no number is well written
-past-written : (s : List ℕ) (at : ℕ) (falls : Bool) → length s < at → isWritten falls (field 0 (fields (drop at s))) ≡ false
-past-written s at falls past =
+past-written : (s : List ℕ) (at : ℕ) (minusAllowed : Bool) → length s < at → isWritten minusAllowed (field 0 (fields (drop at s))) ≡ false
+past-written s at minusAllowed past =
     let le : length s ≤ at = omega arith in
-    rw (drop-of-length-le s le) (none-written falls)
+    rw (drop-of-length-le s le) (none-written minusAllowed)
 
-pub past-end : (s : List ℕ) (at : ℕ) (falls : Bool) → length s < at → (r : Reading) → r ≡ noNumber → Reads falls (field 0 (fields (drop at s))) r
-past-end s at falls past r e = none-read falls (field 0 (fields (drop at s))) r (sym (past-written s at falls past)) e
+pub past-end : (s : List ℕ) (at : ℕ) (minusAllowed : Bool) → length s < at → (r : Reading) → r ≡ noNumber → Reads minusAllowed (field 0 (fields (drop at s))) r
+past-end s at minusAllowed past r e = none-read minusAllowed (field 0 (fields (drop at s))) r (sym (past-written s at minusAllowed past)) e
 
 -- the rest of the line from a place on runs to its end
-pub within : (s : List ℕ) (at : ℕ) (falls : Bool) (r : Reading) → Reads falls (field 0 (fields (take (length s - at) (drop at s)))) r → Reads falls (field 0 (fields (drop at s))) r
-within s at falls r h = rw (rest-whole s at) at h
+pub within : (s : List ℕ) (at : ℕ) (minusAllowed : Bool) (r : Reading) → Reads minusAllowed (field 0 (fields (take (length s - at) (drop at s)))) r → Reads minusAllowed (field 0 (fields (drop at s))) r
+within s at minusAllowed r h = rw (rest-whole s at) at h
 
-module _ (s : List ℕ) (at : ℕ) (falls : Bool) (r : Reading) (h : Reads falls (field 0 (fields (drop at s))) r) (e : r .right ≡ true) where
+module _ (s : List ℕ) (at : ℕ) (minusAllowed : Bool) (r : Reading) (h : Reads minusAllowed (field 0 (fields (drop at s))) r) (e : r .right ≡ true) where
   -- a number that is well written begins and ends within the line
   pub begins : at ≤ length s
-  begins = by-contra at (length s) (λ (past : length s < at). absurd (false≢true (sym (h .written ∙ past-written s at falls past) ∙ e)))
+  begins = by-contra at (length s) (λ (past : length s < at). absurd (false≢true (sym (h .written ∙ past-written s at minusAllowed past) ∙ e)))
 
   pub ends : at + r .length ≤ length s
   ends = rw (h .long e) (field-ends s at (field 0 (fields (drop at s))) begins (rw (rest-whole s at)))

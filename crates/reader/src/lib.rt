@@ -14,14 +14,14 @@ pub struct Reader<'a> {
     pub at: usize,
 }
 
-// The number in the field that begins at a place, where `falls` says whether a minus sign is allowed. Past the line's end there is none, so it is not right.
-pub fn number_at(line: &[u8], at: usize, falls: bool) -> Reading
-    ensures { λ r. ⌜ Reads falls (field 0 (fields (drop at (now (line .entry))))) r ⌝ }
+// The number in the field that begins at a place, where `allowed` says whether a minus sign is allowed. Past the line's end there is none, so it is not right.
+pub fn number_at(line: &[u8], at: usize, allowed: bool) -> Reading
+    ensures { λ r. ⌜ Reads allowed (field 0 (fields (drop at (now (line .entry))))) r ⌝ }
 {
     if at > line.len() {
         return no_number();
     }
-    signed(&line[at..], falls)
+    signed(&line[at..], allowed)
 }
 
 // The reader of a line at a place.
@@ -32,15 +32,15 @@ pub fn begin<'a>(line: &'a [u8], at: usize) -> Reader<'a>
 }
 
 // The number at the reader's place.
-pub fn number<'a>(reader: Reader<'a>, falls: bool) -> Reading
-    ensures { λ n. ⌜ Reads falls (field 0 (fields (drop (reader .entry .at) (now (reader .entry .line))))) n ⌝ }
+pub fn number<'a>(reader: Reader<'a>, allowed: bool) -> Reading
+    ensures { λ n. ⌜ Reads allowed (field 0 (fields (drop (reader .entry .at) (now (reader .entry .line))))) n ⌝ }
 {
-    number_at(reader.line, reader.at, falls)
+    number_at(reader.line, reader.at, allowed)
 }
 
 // The number in the field that begins at a place, by the reader of the line.
-pub fn read_number(line: &[u8], at: usize, falls: bool) -> Reading
-    ensures { λ n. ⌜ Reads falls (field 0 (fields (drop at (now (line .entry))))) n ⌝ }
+pub fn read_number(line: &[u8], at: usize, allowed: bool) -> Reading
+    ensures { λ n. ⌜ Reads allowed (field 0 (fields (drop at (now (line .entry))))) n ⌝ }
 {
-    number(begin(line, at), falls)
+    number(begin(line, at), allowed)
 }

@@ -1,8 +1,8 @@
--- `form::form::may_fall` meets its contract. Assumes nothing.
+-- `form::form::allows_minus` meets its contract. Assumes nothing.
 use borrow.Author.Needs.{needs}
-use Rattle.form.proofs.Forms.{fall-year}
-use Rattle.form.proofs.form.may_fall.Statement.{statement}
-use Rattle.form.proofs.form.may_fall.Tie as tie
+use Rattle.form.proofs.Forms.{minus-year}
+use Rattle.form.proofs.form.allows_minus.Statement.{statement}
+use Rattle.form.proofs.form.allows_minus.Tie as tie
 
 enum-told : tie.Need-enum-told
 enum-told c = search needs
@@ -29,13 +29,13 @@ returns-3 : tie.Need-returns-3
 returns-3 c = search needs
 
 returns-4 : tie.Need-returns-4
-returns-4 c = search fall-year
+returns-4 c = search minus-year
 
 returns-5 : tie.Need-returns-5
 returns-5 c = search needs
 
-pub may-fall-spec : {M : Type 1} → statement M
-may-fall-spec =
+pub allows-minus-spec : {M : Type 1} → statement M
+allows-minus-spec =
     tie.close
     (tie.spec
     enum-told
