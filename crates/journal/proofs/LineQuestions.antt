@@ -38,12 +38,12 @@ first-of-both [] more = refl
 first-of-both (q ∷ qs) more = either (q .1) (q .0) (firstNo (qs ++ more)) (firstNo qs) (firstNo more) (first-of-both qs more)
 
 module _ (line : List ℕ) (slots : List ℕ) (r : Outcome) where
-  pub line-refused : (book : Book) (question : Refusal) → readOf line ≡ refusedAt (numberOf question) → r ≡ refusedOf book question → Does (view book slots) (asBytes line) slots r slots
+  pub line-refused : (book : Book) (refusal : Refusal) → readOf line ≡ refusedAt (numberOf refusal) → r ≡ refusedOf book refusal → Does (view book slots) (asBytes line) slots r slots
   unfolding questions
-  line-refused book question e er =
-      does (view book slots) (asBytes line) slots r slots (some (numberOf question))
-      (rw (first-of-both (lineQuestions line) (bookQuestions (view book slots) (callOf line)), refused-is line (numberOf question) e))
-      (refused book question (some (numberOf question)) (callOf line) slots r refl er)
+  line-refused book refusal e er =
+      does (view book slots) (asBytes line) slots r slots (some (numberOf refusal))
+      (rw (first-of-both (lineQuestions line) (bookQuestions (view book slots) (callOf line)), refused-is line (numberOf refusal) e))
+      (refused book refusal (some (numberOf refusal)) (callOf line) slots r refl er)
 
   line-goes-on : (book : model.Book) (call : Call) → readOf line ≡ asks call → firstNo (questions book (asBytes line)) ≡ firstNo (bookQuestions book call)
   unfolding questions

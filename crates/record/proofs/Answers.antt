@@ -20,9 +20,10 @@ use Rattle.model.specs.Step.{callOf}
 use Rattle.model.specs.Question.{Sound, isShort, hasWord, hasLetter, hasFields, hasLengths, isWellWritten, isWithinLimits, lineQuestions, firstNo}
 use Rattle.model.proofs.Lists.{all-yes, and-left, and-right}
 use Rattle.model.proofs.Lengths.{lengths-right}
+use Rattle.refusal.specs.Number.{refusalOf}
 use Rattle.record.specs.Request.{refusedAt, asks, answered, readOf, requestFor, requestOf, saying, says}
 use Rattle.record.specs.declared.request.Request.{Request}
-use Rattle.record.specs.declared.request.Verdict.{Verdict}
+use Rattle.record.specs.declared.request.Asked.{Asked}
 use Rattle.record.proofs.Questions.{read-from}
 
 -- a list that has its length comes back from its places
@@ -43,6 +44,7 @@ says-call (closeYear letter year paid unpaid tabular) h =
 says-table : (a b c d e f : Bool) (call : Call) → hasLengths call ≡ true
     → let read = if a then (if b then (if c then (if d then (if e then (if f then asks call else refusedAt 6) else refusedAt 5) else refusedAt 4) else refusedAt 3) else refusedAt 2) else refusedAt 1 in
     says (requestOf read) ≡ read
+unfolding refusalOf
 says-table false b c d e f call h = refl
 says-table true false c d e f call h = refl
 says-table true true false d e f call h = refl
@@ -58,9 +60,9 @@ says-read line =
     let call = callFrom word (fields line) in
     rw (read-from line) (says-table (isShort line) (hasWord word) (hasLetter call) (hasFields word (fields line)) (isWellWritten word (fields line)) (isWithinLimits call) call (lengths-right word (fields line)))
 
--- by each verdict: a question's number, or the call
-pub said : (r : Request) (line : List ℕ) → r ≡ requestOf (readOf line) → (v : Verdict) → r .verdict ≡ v → readOf line ≡ saying v r
-said r line h v e = sym (says-read line) ∙ ap says (sym h) ∙ ap (λ (w : Verdict). saying w r) e
+-- by what is asked: a question's number, or the call
+pub said : (r : Request) (line : List ℕ) → r ≡ requestOf (readOf line) → (asked : Asked) → r .asked ≡ asked → readOf line ≡ saying asked r
+said r line h asked e = sym (says-read line) ∙ ap says (sym h) ∙ ap (λ (a : Asked). saying a r) e
 
 -- the first question that is answered no
 answered-no : (o : Option ℕ) (call : Call) (q : ℕ) → answered o call ≡ refusedAt q → o ≡ some q

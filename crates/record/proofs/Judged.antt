@@ -16,13 +16,14 @@ use Rattle.model.specs.Record as model
 use Rattle.model.specs.Question.{isWithinLimits}
 use Rattle.model.proofs.Lists.{and-left, and-right}
 use Rattle.model.proofs.Ages.{ages-small}
+use Rattle.refusal.specs.declared.Refusal.the-variants.{OutsideLimits}
+use Rattle.refusal.specs.Number.{refusalOf}
 use Rattle.form.specs.Word.{named}
 use Rattle.numbers.specs.Number.{most}
 use Rattle.record.specs.Column.{each, sizeAt, paidAt}
-use Rattle.record.specs.Request.{empty, patternRequest, yearRequest, requestFor, requestOf}
+use Rattle.record.specs.Request.{refusedFor, patternRequest, yearRequest, requestFor, requestOf}
 use Rattle.record.specs.Limits.{judged, callOf, Low, Judgeable}
 use Rattle.record.specs.declared.request.Request.{Request}
-use Rattle.record.specs.declared.request.Verdict.the-variants.{Limits}
 use Rattle.record.proofs.Columns.{each-length}
 use Rattle.form.specs.declared.word.Word.{Word}
 use Rattle.form.specs.declared.word.Word.the-variants.{Line, Rate, Patt, Year, Other}
@@ -70,7 +71,8 @@ last-no false p q e = refl
 inside : (call : Call) → isWithinLimits call ≡ true → requestFor call ≡ requestOf (judged call)
 inside call e = rw e
 
-outside : (q : Request) → q ≡ empty Limits → (call : Call) → isWithinLimits call ≡ false → q ≡ requestOf (judged call)
+outside : (q : Request) → q ≡ refusedFor OutsideLimits → (call : Call) → isWithinLimits call ≡ false → q ≡ requestOf (judged call)
+unfolding refusalOf
 outside q eq call e = rw (eq, e)
 
 -- a list, and zeros: its front, and how many zeros there are
@@ -84,25 +86,25 @@ module _ (letter : ℕ) (sizes : List ℕ) (t : Bool) (et : t ≡ isOpening (get
   pub declare-is : t ≡ true → requestFor (declare letter (getD sizes 2 0)) ≡ requestOf (judged (declare letter (getD sizes 2 0)))
   declare-is t1 = inside (declare letter (getD sizes 2 0)) (sym et ∙ t1)
 
-  pub declare-not : (q : Request) → q ≡ empty Limits → t ≡ false → q ≡ requestOf (judged (declare letter (getD sizes 2 0)))
+  pub declare-not : (q : Request) → q ≡ refusedFor OutsideLimits → t ≡ false → q ≡ requestOf (judged (declare letter (getD sizes 2 0)))
   declare-not q eq t0 = outside q eq (declare letter (getD sizes 2 0)) (sym et ∙ t0)
 
 module _ (sizes : List ℕ) (a : Bool) (ea : a ≡ isYear (getD sizes 1 0)) where
-  pub rate-not-year : (q : Request) → q ≡ empty Limits → a ≡ false → q ≡ requestOf (judged (setRate (getD sizes 1 0) (each (sizeAt sizes) 60 1 2)))
+  pub rate-not-year : (q : Request) → q ≡ refusedFor OutsideLimits → a ≡ false → q ≡ requestOf (judged (setRate (getD sizes 1 0) (each (sizeAt sizes) 60 1 2)))
   rate-not-year q eq a0 = outside q eq (setRate (getD sizes 1 0) (each (sizeAt sizes) 60 1 2)) (rw (sym ea ∙ a0))
 
   module _ (a1 : a ≡ true) (months : List ℕ) (em : months ≡ each (sizeAt sizes) 60 1 2) (b : Bool) (eb : b ≡ all isRate months) where
     pub rate-is : b ≡ true → requestFor (setRate (getD sizes 1 0) months) ≡ requestOf (judged (setRate (getD sizes 1 0) (each (sizeAt sizes) 60 1 2)))
     rate-is b1 = rw em (inside (setRate (getD sizes 1 0) (each (sizeAt sizes) 60 1 2)) (yes (isYear (getD sizes 1 0)) (all isRate (each (sizeAt sizes) 60 1 2)) (sym ea ∙ a1) (rw em at (sym eb ∙ b1))))
 
-    pub rate-not : (q : Request) → q ≡ empty Limits → b ≡ false → q ≡ requestOf (judged (setRate (getD sizes 1 0) (each (sizeAt sizes) 60 1 2)))
+    pub rate-not : (q : Request) → q ≡ refusedFor OutsideLimits → b ≡ false → q ≡ requestOf (judged (setRate (getD sizes 1 0) (each (sizeAt sizes) 60 1 2)))
     rate-not q eq b0 = outside q eq (setRate (getD sizes 1 0) (each (sizeAt sizes) 60 1 2)) (second-no (isYear (getD sizes 1 0)) (all isRate (each (sizeAt sizes) 60 1 2)) (rw em at (sym eb ∙ b0)))
 
 module _ (letter : ℕ) (minus : List Bool) (sizes : List ℕ) (a : Bool) (ea : a ≡ isYear (getD sizes 2 0)) where
-  pub pattern-not-year : (q : Request) → q ≡ empty Limits → a ≡ false → q ≡ requestOf (judged (callOf model.PATT letter minus sizes))
+  pub pattern-not-year : (q : Request) → q ≡ refusedFor OutsideLimits → a ≡ false → q ≡ requestOf (judged (callOf model.PATT letter minus sizes))
   pattern-not-year q eq a0 = outside q eq (callOf model.PATT letter minus sizes) (rw (sym ea ∙ a0))
 
-  pub close-not-year : (q : Request) → q ≡ empty Limits → a ≡ false → q ≡ requestOf (judged (callOf model.YEAR letter minus sizes))
+  pub close-not-year : (q : Request) → q ≡ refusedFor OutsideLimits → a ≡ false → q ≡ requestOf (judged (callOf model.YEAR letter minus sizes))
   close-not-year q eq a0 = outside q eq (callOf model.YEAR letter minus sizes) (rw (sym ea ∙ a0))
 
   module _ (a1 : a ≡ true) (k : ℕ) (ek : k ≡ ages letter) where
@@ -130,7 +132,7 @@ module _ (letter : ℕ) (minus : List Bool) (sizes : List ℕ) (a : Bool) (ea : 
           (yes (isYear (getD sizes 2 0)) (all isAmount (each (sizeAt sizes) (ages letter) 2 3)) (sym ea ∙ a1) (and-left (all isAmount (each (sizeAt sizes) (ages letter) 2 3)) (all isAmount (each (sizeAt sizes) (ages letter) 2 4)) both))
           (and-right (all isAmount (each (sizeAt sizes) (ages letter) 2 3)) (all isAmount (each (sizeAt sizes) (ages letter) 2 4)) both)))
 
-      pub pattern-not : (q : Request) → q ≡ empty Limits → b ≡ false → q ≡ requestOf (judged (callOf model.PATT letter minus sizes))
+      pub pattern-not : (q : Request) → q ≡ refusedFor OutsideLimits → b ≡ false → q ≡ requestOf (judged (callOf model.PATT letter minus sizes))
       pattern-not q eq b0 =
           outside q eq (callOf model.PATT letter minus sizes)
           (last-no (isYear (getD sizes 2 0)) (all isAmount (each (sizeAt sizes) (ages letter) 2 3)) (all isAmount (each (sizeAt sizes) (ages letter) 2 4)) (sym amounts ∙ b0))
@@ -145,7 +147,7 @@ module _ (letter : ℕ) (minus : List Bool) (sizes : List ℕ) (a : Bool) (ea : 
       paids : b ≡ all isPaid (each (paidAt minus sizes) (suc (ages letter)) 3 3)
       paids = rw (rows, year-paid) at eb
 
-      pub close-not-paid : (q : Request) → q ≡ empty Limits → b ≡ false → q ≡ requestOf (judged (callOf model.YEAR letter minus sizes))
+      pub close-not-paid : (q : Request) → q ≡ refusedFor OutsideLimits → b ≡ false → q ≡ requestOf (judged (callOf model.YEAR letter minus sizes))
       close-not-paid q eq b0 =
           outside q eq (callOf model.YEAR letter minus sizes)
           (third-no (isYear (getD sizes 2 0)) (all isPaid (each (paidAt minus sizes) (suc (ages letter)) 3 3)) (all isAmount (each (sizeAt sizes) (suc (ages letter)) 3 4)) (all isAmount (each (sizeAt sizes) (suc (ages letter)) 3 5)) (sym paids ∙ b0))
@@ -182,7 +184,7 @@ module _ (letter : ℕ) (minus : List Bool) (sizes : List ℕ) (a : Bool) (ea : 
             (yes (isYear (getD sizes 2 0) && all isPaid (each (paidAt minus sizes) (suc (ages letter)) 3 3)) (all isAmount (each (sizeAt sizes) (suc (ages letter)) 3 4)) front (and-left (all isAmount (each (sizeAt sizes) (suc (ages letter)) 3 4)) (all isAmount (each (sizeAt sizes) (suc (ages letter)) 3 5)) both))
             (and-right (all isAmount (each (sizeAt sizes) (suc (ages letter)) 3 4)) (all isAmount (each (sizeAt sizes) (suc (ages letter)) 3 5)) both)))
 
-        pub close-not : (q : Request) → q ≡ empty Limits → d ≡ false → q ≡ requestOf (judged (callOf model.YEAR letter minus sizes))
+        pub close-not : (q : Request) → q ≡ refusedFor OutsideLimits → d ≡ false → q ≡ requestOf (judged (callOf model.YEAR letter minus sizes))
         close-not q eq d0 =
             outside q eq (callOf model.YEAR letter minus sizes)
             (last-no (isYear (getD sizes 2 0) && all isPaid (each (paidAt minus sizes) (suc (ages letter)) 3 3)) (all isAmount (each (sizeAt sizes) (suc (ages letter)) 3 4)) (all isAmount (each (sizeAt sizes) (suc (ages letter)) 3 5)) (sym year-amounts ∙ d0))

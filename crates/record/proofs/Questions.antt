@@ -15,15 +15,16 @@ use Rattle.model.specs.Field.{fields, field, letterIn, column}
 use Rattle.model.specs.Record.{Word, LINE, RATE, PATT, YEAR, OTHER, wordOf, fieldCount, firstNumber, allWritten, callFrom}
 use Rattle.model.specs.Question.{isShort, hasWord, hasLetter, hasFields, isWellWritten, isWithinLimits, lineQuestions, firstNo}
 use Rattle.model.proofs.Lists.{and-left, and-right}
+use Rattle.refusal.specs.declared.Refusal.the-variants as refusal
+use Rattle.refusal.specs.Number.{refusalOf}
 use Rattle.form.specs.Word.{isLettered}
 use Rattle.numbers.specs.Number.{capped}
 use Rattle.record.specs.Gather.{Room, Gathered}
 use Rattle.record.specs.Column.{each, sizeAt, paidAt}
-use Rattle.record.specs.Request.{refusedAt, asks, answered, readOf, empty, requestOf}
+use Rattle.record.specs.Request.{refusedAt, asks, answered, readOf, refusedFor, requestOf}
 use Rattle.record.specs.Limits.{judged, callOf, Low, Judgeable}
 use Rattle.record.specs.Read.{fromWord, fromLetter, fromCount, Lettered}
 use Rattle.record.specs.declared.request.Request.{Request}
-use Rattle.record.specs.declared.request.Verdict.the-variants as verdict
 use Rattle.record.proofs.Columns.{each-column}
 use Rattle.record.proofs.Caps.{cappedPaid, line-same, rate-same, pattern-same, year-same}
 
@@ -118,14 +119,16 @@ module _ (s : List ℕ) (word : Word) (letter : ℕ) (p : Lettered s word letter
           rw (n, w) (h' ∙ ap requestOf (same-call (fields s) minus sizes word (p .known) (total ∙ there) (rw (t1, e, there) at g)))
 
     module _ (t0 : t ≡ false) (n : ℕ) (en : n ≡ length (fields s)) (q : Request) where
-      pub numbers-ill : n ≡ expected → q ≡ empty verdict.Writing → q ≡ requestOf (fromCount word (fields s))
+      pub numbers-ill : n ≡ expected → q ≡ refusedFor refusal.BadlyWritten → q ≡ requestOf (fromCount word (fields s))
+      unfolding refusalOf
       numbers-ill x eq =
           let c : eqb (length (fields s)) expected ≡ true = eq-eqb (length (fields s)) expected (sym en ∙ x) in
           let w : isWellWritten word (fields s) ≡ false = rw (← e) (sym (rw (c, t0) at (g .written))) in
           let h : hasFields word (fields s) ≡ true = rw (← there) c in
           rw (eq, h, w)
 
-      pub numbers-not : (n ≡ expected → ⊥) → q ≡ empty verdict.Count → q ≡ requestOf (fromCount word (fields s))
+      pub numbers-not : (n ≡ expected → ⊥) → q ≡ refusedFor refusal.WrongCount → q ≡ requestOf (fromCount word (fields s))
+      unfolding refusalOf
       numbers-not x eq =
           let h : hasFields word (fields s) ≡ false = rw (← there) (ne-eqb (length (fields s)) expected (λ y. x (en ∙ y))) in
           rw (eq, h)
@@ -150,7 +153,8 @@ module _ (s : List ℕ) (word : Word) (letter : ℕ) (el : letter ≡ letterIn (
     pub letter-is : (q : Request) → t ≡ true → q ≡ requestOf (fromCount word (fields s)) → q ≡ requestOf (fromLetter word (fields s))
     letter-is q t1 h = rw (answer, t1) h
 
-    pub letter-not : (q : Request) → t ≡ false → q ≡ empty verdict.Letter → q ≡ requestOf (fromLetter word (fields s))
+    pub letter-not : (q : Request) → t ≡ false → q ≡ refusedFor refusal.UncoveredLetter → q ≡ requestOf (fromLetter word (fields s))
+    unfolding refusalOf
     letter-not q t0 eq = rw (eq, answer, t0)
 
 -- question 2
@@ -158,7 +162,8 @@ module _ (fs : List (List ℕ)) (word : Word) (t : Bool) (et : t ≡ hasWord wor
   pub word-is : t ≡ true → q ≡ requestOf (fromLetter word fs) → q ≡ requestOf (fromWord word fs)
   word-is t1 h = rw (← et, t1) h
 
-  pub word-not : t ≡ false → q ≡ empty verdict.Word → q ≡ requestOf (fromWord word fs)
+  pub word-not : t ≡ false → q ≡ refusedFor refusal.UnknownWord → q ≡ requestOf (fromWord word fs)
+  unfolding refusalOf
   word-not t0 eq = rw (eq, ← et, t0)
 
 -- question 1, and the table of all six
@@ -185,5 +190,6 @@ read-is s word q f le ef ew h =
     let w : word ≡ wordOf (field 0 (fields s)) = rw ef at ew in
     rw (read-from s, le-leb (length s) 1024 le) (rw w at h)
 
-pub read-not : (s : List ℕ) (q : Request) → 1024 < length s → q ≡ empty verdict.Long → q ≡ requestOf (readOf s)
+pub read-not : (s : List ℕ) (q : Request) → 1024 < length s → q ≡ refusedFor refusal.TooLong → q ≡ requestOf (readOf s)
+unfolding refusalOf
 read-not s q lt eq = rw (eq, read-from s, lt-leb (length s) 1024 lt)

@@ -4,16 +4,16 @@ use mathlib.Core.List.{List, _++_}
 use mathlib.Core.Option.{Option, none, some}
 use Prim.Native.Nat.{ℕ, suc, _-_}
 use lib.IntN.{ℤ, pos}
-use lib.Dec.{eqb}
 use lib.ListN.{length, take, replicate}
-use Rattle.model.specs.Basics.{if_then_else_}
 use Rattle.model.specs.Letter.{ages}
 use Rattle.model.specs.Call.{Call, declare, setRate, addPattern, closeYear}
 use Rattle.model.specs.Step.{callOf}
 use Rattle.model.specs.Question.{lineQuestions, firstNo}
+use Rattle.refusal.specs.declared.Refusal.{Refusal}
+use Rattle.refusal.specs.Number.{numberOf, refusalOf}
 use Rattle.record.specs.declared.request.Request.{Request}
-use Rattle.record.specs.declared.request.Verdict.{Verdict}
-use Rattle.record.specs.declared.request.Verdict.the-variants.{Long, Word, Letter, Count, Writing, Limits, Declare, SetRate, AddPattern, CloseYear}
+use Rattle.record.specs.declared.request.Asked.{Asked}
+use Rattle.record.specs.declared.request.Asked.the-variants.{Refused, Declare, SetRate, AddPattern, CloseYear}
 
 -- "A "no" refuses with that question's number."; or the call that is asked
 pub data Read : Type 0 where
@@ -28,11 +28,11 @@ answered (some question) call = refusedAt question
 unfoldable pub readOf : List ℕ → Read
 readOf line = answered (firstNo (lineQuestions line)) (callOf line)
 
--- a verdict and nothing else
-abbrev pub empty : Verdict → Request
-empty verdict =
+-- a refusal and nothing else
+abbrev pub refusedFor : Refusal → Request
+refusedFor refusal =
     record {
-      verdict = verdict;
+      asked = Refused refusal;
       letter = 0;
       opening = 0;
       year = 0;
@@ -44,15 +44,6 @@ empty verdict =
       tabular = replicate 11 0;
     }
 
--- each question's case
-abbrev pub verdictOf : ℕ → Verdict
-verdictOf question =
-    if eqb question 1 then Long else
-    (if eqb question 2 then Word else
-    (if eqb question 3 then Letter else
-    (if eqb question 4 then Count else
-    (if eqb question 5 then Writing else Limits))))
-
 -- a list, and zeros up to n places
 abbrev filled : {A : Type 0} → ℕ → A → List A → List A
 filled n zero list = list ++ replicate (n - length list) zero
@@ -61,7 +52,7 @@ filled n zero list = list ++ replicate (n - length list) zero
 abbrev pub patternRequest : ℕ → ℕ → List ℕ → List ℕ → Request
 patternRequest letter year paid incurred =
     record {
-      verdict = AddPattern;
+      asked = AddPattern;
       letter = letter;
       opening = 0;
       year = year;
@@ -76,7 +67,7 @@ patternRequest letter year paid incurred =
 abbrev pub yearRequest : ℕ → ℕ → List ℤ → List ℕ → List ℕ → Request
 yearRequest letter year payments unpaid tabular =
     record {
-      verdict = CloseYear;
+      asked = CloseYear;
       letter = letter;
       opening = 0;
       year = year;
@@ -92,7 +83,7 @@ yearRequest letter year payments unpaid tabular =
 abbrev pub requestFor : Call → Request
 requestFor (declare letter opening) =
     record {
-      verdict = Declare;
+      asked = Declare;
       letter = letter;
       opening = opening;
       year = 0;
@@ -105,7 +96,7 @@ requestFor (declare letter opening) =
     }
 requestFor (setRate year months) =
     record {
-      verdict = SetRate;
+      asked = SetRate;
       letter = 0;
       opening = 0;
       year = year;
@@ -121,7 +112,7 @@ requestFor (closeYear letter year paid unpaid tabular) = yearRequest letter year
 
 -- the request that says it, whole
 abbrev pub requestOf : Read → Request
-requestOf (refusedAt question) = empty (verdictOf question)
+requestOf (refusedAt question) = refusedFor (refusalOf question)
 requestOf (asks call) = requestFor call
 
 -- the calls of a PATT and of a YEAR: of a line's ages, ten or two, and one row more
@@ -133,17 +124,12 @@ yearCall r =
     closeYear (r .letter) (r .year) (take (suc (ages (r .letter))) (r .payments)) (take (suc (ages (r .letter))) (r .unpaid)) (take (suc (ages (r .letter))) (r .tabular))
 
 -- each case's number in document 01, or its call
-abbrev pub saying : Verdict → Request → Read
-saying Long r = refusedAt 1
-saying Word r = refusedAt 2
-saying Letter r = refusedAt 3
-saying Count r = refusedAt 4
-saying Writing r = refusedAt 5
-saying Limits r = refusedAt 6
+abbrev pub saying : Asked → Request → Read
+saying (Refused refusal) r = refusedAt (numberOf refusal)
 saying Declare r = asks (declare (r .letter) (r .opening))
 saying SetRate r = asks (setRate (r .year) (r .months))
 saying AddPattern r = asks (patternCall r)
 saying CloseYear r = asks (yearCall r)
 
 abbrev pub says : Request → Read
-says r = saying (r .verdict) r
+says r = saying (r .asked) r

@@ -4,8 +4,8 @@ use crate::column::by_row;
 use crate::column::months;
 use crate::column::payments;
 use crate::refused_request::refused;
+use crate::request::Asked;
 use crate::request::Request;
-use crate::request::Verdict;
 use form::word::Word;
 use kinds::rate::Rate;
 use kinds::year::is_year;
@@ -13,6 +13,7 @@ use letters::letter::ages;
 use money::amount::Amount;
 use money::opening::is_opening;
 use money::paid::Paid;
+use refusal::Refusal;
 ghost use mathlib.Core.Path.{_≡_};
 ghost use mathlib.Core.Bool.{_&&_};
 ghost use mathlib.Core.List.{[]};
@@ -40,7 +41,7 @@ pub fn declare(letter: u8, sizes: &[u64; 62]) -> Request
     let opening = sizes[2];
     if is_opening(opening) {
         return Request {
-            verdict: Verdict::Declare,
+            asked: Asked::Declare,
             letter,
             opening,
             year: 0,
@@ -52,7 +53,7 @@ pub fn declare(letter: u8, sizes: &[u64; 62]) -> Request
             tabular: [0; 11],
         };
     }
-    refused(Verdict::Limits)
+    refused(Refusal::OutsideLimits)
 }
 
 // "RATE, year, sixty rates"
@@ -64,7 +65,7 @@ pub fn set_rate(sizes: &[u64; 62]) -> Request
         let months = months(sizes);
         if Rate::all(&months) {
             return Request {
-                verdict: Verdict::SetRate,
+                asked: Asked::SetRate,
                 letter: 0,
                 opening: 0,
                 year,
@@ -76,9 +77,9 @@ pub fn set_rate(sizes: &[u64; 62]) -> Request
                 tabular: [0; 11],
             };
         }
-        return refused(Verdict::Limits);
+        return refused(Refusal::OutsideLimits);
     }
-    refused(Verdict::Limits)
+    refused(Refusal::OutsideLimits)
 }
 
 // "PATT, letter, year, then paid and incurred an age"
@@ -92,7 +93,7 @@ pub fn add_pattern(letter: u8, sizes: &[u64; 62]) -> Request
         let incurred = by_age(sizes, 4, n);
         if are_amounts(&paid[..n], &incurred[..n]) {
             return Request {
-                verdict: Verdict::AddPattern,
+                asked: Asked::AddPattern,
                 letter,
                 opening: 0,
                 year,
@@ -104,9 +105,9 @@ pub fn add_pattern(letter: u8, sizes: &[u64; 62]) -> Request
                 tabular: [0; 11],
             };
         }
-        return refused(Verdict::Limits);
+        return refused(Refusal::OutsideLimits);
     }
-    refused(Verdict::Limits)
+    refused(Refusal::OutsideLimits)
 }
 
 // "YEAR, letter, year, then paid, unpaid, tabular for each age, prior row last"
@@ -123,7 +124,7 @@ pub fn close_year(letter: u8, minus: &[bool; 62], sizes: &[u64; 62]) -> Request
         if Paid::all(&payments[..n]) {
             if are_amounts(&unpaid[..n], &tabular[..n]) {
                 return Request {
-                    verdict: Verdict::CloseYear,
+                    asked: Asked::CloseYear,
                     letter,
                     opening: 0,
                     year,
@@ -135,11 +136,11 @@ pub fn close_year(letter: u8, minus: &[bool; 62], sizes: &[u64; 62]) -> Request
                     tabular,
                 };
             }
-            return refused(Verdict::Limits);
+            return refused(Refusal::OutsideLimits);
         }
-        return refused(Verdict::Limits);
+        return refused(Refusal::OutsideLimits);
     }
-    refused(Verdict::Limits)
+    refused(Refusal::OutsideLimits)
 }
 
 // Question 6, and the call.
@@ -152,6 +153,6 @@ pub fn judge<'a>(word: Word, letter: u8, minus: &'a [bool; 62], sizes: &'a [u64;
         Word::Rate => set_rate(sizes),
         Word::Patt => add_pattern(letter, sizes),
         Word::Year => close_year(letter, minus, sizes),
-        Word::Other => refused(Verdict::Word),
+        Word::Other => refused(Refusal::UnknownWord),
     }
 }

@@ -3,7 +3,6 @@ use crate::gather::gather;
 use crate::limits::judge;
 use crate::refused_request::refused;
 use crate::request::Request;
-use crate::request::Verdict;
 use field::field::count;
 use field::field::first;
 use form::form::field_count;
@@ -13,6 +12,7 @@ use form::letter::letter_of;
 use form::word::Word;
 use form::word::is_word;
 use form::word::word_of;
+use refusal::Refusal;
 ghost use mathlib.Core.Path.{_≡_};
 ghost use mathlib.Core.Bool.{true};
 ghost use Rattle.model.specs.Field.{fields};
@@ -34,9 +34,9 @@ fn ask_numbers(line: &[u8], word: Word, letter: u8) -> Request
         return judge(word, letter, &minus, &sizes);
     }
     if count(line) == expected {
-        return refused(Verdict::Writing);
+        return refused(Refusal::BadlyWritten);
     }
-    refused(Verdict::Count)
+    refused(Refusal::WrongCount)
 }
 
 // "3. But for RATE: is the second field a covered letter? (no second field is a no)", and on.
@@ -48,7 +48,7 @@ fn ask_letter(line: &[u8], word: Word) -> Request
     if is_lettered(word, letter) {
         return ask_numbers(line, word, letter);
     }
-    refused(Verdict::Letter)
+    refused(Refusal::UncoveredLetter)
 }
 
 // "2. Is the first field, byte for byte, one of the four words?", and on.
@@ -58,7 +58,7 @@ fn ask_word(line: &[u8], word: Word) -> Request
     if is_word(word) {
         return ask_letter(line, word);
     }
-    refused(Verdict::Word)
+    refused(Refusal::UnknownWord)
 }
 
 // "1. Has the line at most 1,024 bytes?", and on.
@@ -69,5 +69,5 @@ pub fn read(line: &[u8]) -> Request
         let word = word_of(first(line));
         return ask_word(line, word);
     }
-    refused(Verdict::Long)
+    refused(Refusal::TooLong)
 }

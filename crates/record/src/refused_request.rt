@@ -1,15 +1,16 @@
 // The request of a line that one of questions 1 to 6 refuses.
+use crate::request::Asked;
 use crate::request::Request;
-use crate::request::Verdict;
+use refusal::Refusal;
 ghost use mathlib.Core.Path.{_≡_};
-ghost use Rattle.record.specs.Request.{empty};
+ghost use Rattle.record.specs.Request.{refusedFor};
 
-// A verdict and nothing else.
-pub fn refused(verdict: Verdict) -> Request
-    ensures { λ r. ⌜ r ≡ empty verdict ⌝ }
+// A refusal and nothing else.
+pub fn refused(refusal: Refusal) -> Request
+    ensures { λ r. ⌜ r ≡ refusedFor refusal ⌝ }
 {
     Request {
-        verdict,
+        asked: Asked::Refused(refusal),
         letter: 0,
         opening: 0,
         year: 0,

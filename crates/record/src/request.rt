@@ -1,13 +1,9 @@
-// What a line asks of the book: a call of one of the four kinds, or the first of questions 1 to 6 that is answered no.
+// What a line asks of the book: a call of one of the four kinds, or nothing, where one of questions 1 to 6 is answered no.
+use refusal::Refusal;
 
-// The question that is answered no, by what it asks; or the kind of the call.
-pub enum Verdict {
-    Long,
-    Word,
-    Letter,
-    Count,
-    Writing,
-    Limits,
+// What is wrong at the first question that is answered no; or the kind of the call.
+pub enum Asked {
+    Refused(Refusal),
     Declare,
     SetRate,
     AddPattern,
@@ -16,7 +12,7 @@ pub enum Verdict {
 
 // What is not of the kind is 0. A pattern's arrays are by age, youngest first; a year's are by row, the prior row last.
 pub struct Request {
-    pub verdict: Verdict,
+    pub asked: Asked,
     pub letter: u8,
     pub opening: u64,
     pub year: u64,

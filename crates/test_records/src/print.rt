@@ -1,22 +1,17 @@
 // A line of output: NO and a question, or a word and all that the record asks, parted by spaces.
 use libc::STDOUT_FILENO;
+use record::request::Asked;
 use record::request::Request;
-use record::request::Verdict;
 
 pub fn show(line: &[u8]) {
     let request = record::read::read(line);
-    let verdict = request.verdict;
-    match verdict {
-        Verdict::Long => no(1),
-        Verdict::Word => no(2),
-        Verdict::Letter => no(3),
-        Verdict::Count => no(4),
-        Verdict::Writing => no(5),
-        Verdict::Limits => no(6),
-        Verdict::Declare => declare(request),
-        Verdict::SetRate => set_rate(request),
-        Verdict::AddPattern => add_pattern(request),
-        Verdict::CloseYear => close_year(request),
+    let asked = request.asked;
+    match asked {
+        Asked::Refused(refusal) => no(refusal.number()),
+        Asked::Declare => declare(request),
+        Asked::SetRate => set_rate(request),
+        Asked::AddPattern => add_pattern(request),
+        Asked::CloseYear => close_year(request),
     }
     text(b"\n");
 }

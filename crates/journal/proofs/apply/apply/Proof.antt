@@ -7,6 +7,12 @@ use Rattle.journal.proofs.apply.apply.Tie as tie
 read-requires : tie.Need-read-requires
 read-requires c κs = search needs
 
+enum-known-asked : tie.Need-enum-known-asked
+enum-known-asked c = search needs
+
+refuse-requires : tie.Need-refuse-requires
+refuse-requires c κs = search needs
+
 enum-told : tie.Need-enum-told
 enum-told c = search needs
 
@@ -34,32 +40,28 @@ enum-told-4 c = search needs
 apply-year-requires : tie.Need-apply-year-requires
 apply-year-requires c κs = search needs
 
-refusal-of-requires : tie.Need-refusal-of-requires
-refusal-of-requires c κs = search needs
-
-refuse-requires : tie.Need-refuse-requires
-refuse-requires c κs = search needs
-
 returns : tie.Need-returns
-returns c = search declares
+returns c = search refuses
 
 returns-2 : tie.Need-returns-2
-returns-2 c = search sets-rate
+returns-2 c = search declares
 
 returns-3 : tie.Need-returns-3
-returns-3 c = search adds-pattern
+returns-3 c = search sets-rate
 
 returns-4 : tie.Need-returns-4
-returns-4 c = search closes-year
+returns-4 c = search adds-pattern
 
 returns-5 : tie.Need-returns-5
-returns-5 c = search (refuses, c .before .before .match .keys5)
+returns-5 c = search closes-year
 
 pub apply-spec : {M : Type 1} → statement M
 apply-spec =
     tie.close
     (tie.spec
     read-requires
+    enum-known-asked
+    refuse-requires
     enum-told
     declare-requires
     enum-told-2
@@ -69,8 +71,6 @@ apply-spec =
     apply-pattern-requires
     enum-told-4
     apply-year-requires
-    refusal-of-requires
-    refuse-requires
     returns
     returns-2
     returns-3
