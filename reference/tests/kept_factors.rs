@@ -43,8 +43,12 @@ fn question(rows: &[CumulativeRow]) -> u64 {
     0
 }
 
-/// The program's line: the rate, the question, ten factors, the composite.
+/// The program's line: the rate, the question, ten factors, the composite; of a
+/// number that is no rate, the question alone.
 fn line(kind: LineKind, rate: u64, paid: &[u64], incurred: &[u64]) -> String {
+    if rate > HIGHEST_RATE {
+        return format!("{rate} 6");
+    }
     let pairs = paid.iter().zip(incurred);
     let rows: Vec<CumulativeRow> = pairs
         .map(|(paid, incurred)| CumulativeRow {
@@ -57,7 +61,7 @@ fn line(kind: LineKind, rate: u64, paid: &[u64], incurred: &[u64]) -> String {
     if question == 0 {
         let ratios: Vec<u64> = rows.iter().map(|row| cumulative_ratio(*row)).collect();
         let pattern = Pattern::new(kind, &ratios);
-        let factors = Factors::new(kind, &pattern, rate.min(HIGHEST_RATE));
+        let factors = Factors::new(kind, &pattern, rate);
         fields.extend((1..=kind.ages()).map(|age| factors.kept(age)));
         fields.resize(12, 0);
         fields.push(factors.composite());

@@ -1,15 +1,21 @@
-// A line of output: the rate, the verdict's question (0: fine), the kept factors and the composite, parted by spaces.
+// A line of output: the rate, the verdict's question (0: fine), the kept factors and the composite, parted by spaces. A number that is no rate has its question alone.
 use kinds::rate::MaybeRate;
 use kinds::rate::Rate;
 use libc::STDOUT_FILENO;
+use refusal::Refusal;
 use refusal::Verdict;
 
 pub fn show(letter: u8, rate: u64, paid: &[u64], incurred: &[u64]) {
-    let MaybeRate::Within(given) = Rate::new(rate) else {
-        return;
-    };
-    let pattern = factor::pattern::discount(letter, given, paid, incurred);
     io::print_decimal(STDOUT_FILENO, rate);
+    match Rate::new(rate) {
+        MaybeRate::Within(given) => show_pattern(letter, given, paid, incurred),
+        MaybeRate::Outside => field(Refusal::OutsideLimits.number()),
+    }
+    io::write_all(STDOUT_FILENO, b"\n");
+}
+
+fn show_pattern(letter: u8, rate: Rate, paid: &[u64], incurred: &[u64]) {
+    let pattern = factor::pattern::discount(letter, rate, paid, incurred);
     let verdict = pattern.verdict;
     field(question(verdict));
     let factors = pattern.factors;
@@ -19,7 +25,6 @@ pub fn show(letter: u8, rate: u64, paid: &[u64], incurred: &[u64]) {
         i += 1;
     }
     field(pattern.composite);
-    io::write_all(STDOUT_FILENO, b"\n");
 }
 
 fn field(n: u64) {
