@@ -1,3 +1,3 @@
+pub mod InTurn
 pub mod LineQuestions
 pub mod LineRead
-pub mod Runs

@@ -1,1 +1,1 @@
-pub mod Apply
+pub mod InTurn

@@ -1,3 +1,2 @@
-// Records as they come: `apply` takes the bytes of one line, `apply_all` a whole input.
+// A record by the bytes of its line. proofs/InTurn.antt has demand 3 of any list of records and calls.
 pub mod apply;
-pub mod apply_all;
