@@ -31,9 +31,10 @@ module _ (begun : Book) (empty : IsEmpty begun) (first : List ℕ) where
   unfolding after slotsAfterAll
   books _ _ _ none = (empty first, refl)
   books _ _ _ (one {requests} {book} {slots} {request} {r} {later} before does) =
-      let so-far = books requests book slots before in (
-        ap (λ (o : model-step.Outcome). o .book) (does .outcome) ∙ rw (after-last requests model.empty request, so-far .0),
-        does .lent ∙ rw (slots-last requests model.empty request first, so-far .0, ← so-far .1),
+      let so-far = books requests book slots before in
+      let met : model.Book = after model.empty requests in (
+        ap (λ (o : model-step.Outcome). o .book) (does .outcome) ∙ ap (λ (b : model.Book). step b request .book) (so-far .0) ∙ sym (after-last requests model.empty request),
+        does .lent ∙ ap (λ (b : model.Book). slotsAfter (firstNo (questions b request)) b (asked request) slots) (so-far .0) ∙ ap (slotsAfter (firstNo (questions met request)) met (asked request)) (so-far .1) ∙ sym (slots-last requests model.empty request first),
       )
 
   pub leaves : (requests : List Request) (book : Book) (slots : List ℕ) → DoneInTurn begun first requests book slots → Leaves requests first book slots
