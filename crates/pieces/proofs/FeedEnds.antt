@@ -8,23 +8,25 @@ use native.Mathlib.Omega.{arith}
 use borrow.Author.Tests.{le-leb, lt-leb, leb-false}
 use lib.ListN.{length, take, drop, length-take, length-drop, take-append-drop, replicate}
 use lib.Seq.{take-length, take-take, take-all, drop-length}
+use Rattle.model.specs.Answer.{doneText}
 use Rattle.model.proofs.Lists.{true≢false}
 use Rattle.state.specs.declared.book.Book.{Book}
 use Rattle.state.specs.View.{IsEmpty}
 use Rattle.bytes.specs.Bytes.{indexOf}
 use Rattle.line_end.specs.Scan.{EndsAt}
-use Rattle.answer.specs.Put.{placed}
-use Rattle.answer.specs.Text.{hasRoom}
+use Rattle.answer.specs.Put.{placed, Puts}
+use Rattle.answer.specs.Text.{hasRoom, PutsWithRoom}
 use Rattle.pieces.specs.declared.line.OpenLine.{OpenLine}
 use Rattle.pieces.specs.declared.answer_line.Answered.{Answered}
 use Rattle.pieces.specs.declared.answer_lines.Lines.{Lines}
 use Rattle.pieces.specs.declared.feed.Run.{Run}
 use Rattle.pieces.specs.Progress.{Progress, ended, lengthened, takingAll, takenOf, closed}
-use Rattle.pieces.specs.Feed.{bytesOf, openLine, before, progressOf, IsStart, Answers, FedTo, AnswersLines, Feeds, Closes}
+use Rattle.pieces.specs.Feed.{bytesOf, openLine, before, progressOf, IsStart, Answers, FedTo, AnswersLines, Feeds, Closes, PutsDone}
 use Rattle.pieces.proofs.LineFound.{line-taken, line-counted}
 use Rattle.pieces.proofs.Joining.{same-front, front-length}
 use Rattle.pieces.proofs.Feeding.{put-in, room-is, short}
 use Rattle.pieces.proofs.Pieces.{pieces-join}
+use Rattle.pieces.proofs.Written.{closed-some}
 
 module _ (book : Book) (slots begun piece out : List ℕ) (r : Lines) (laterSlots laterOut : List ℕ) (f : FedTo (before book slots begun) begun piece out (r .book) (r .begun) (r .at) (r .put) laterSlots laterOut) where
   -- no byte 10 is left
@@ -126,9 +128,8 @@ empty-list [] z = refl
 empty-list (x ∷ l) z = absurd (omega arith)
 
 closed-by : (s : Progress) (line : List ℕ) → s .line ≡ line → (length line ≡ 0 → ⊥) → closed s ≡ ended s
-unfolding closed
 closed-by s [] e nz = absurd (nz refl)
-closed-by s (b ∷ line) e nz = rw e
+closed-by s (b ∷ line) e nz = closed-some s b line e
 
 closed-line : (s : Progress) → (length (s .line) ≡ 0 → ⊥) → closed s ≡ ended s
 closed-line s nz = closed-by s (s .line) refl nz
@@ -136,6 +137,10 @@ closed-line s nz = closed-by s (s .line) refl nz
 -- before the first piece
 pub starts : (book : Book) → IsEmpty book → IsStart (record { book = book; line = record { bytes = replicate 1025 0; count = 0 } })
 starts book e = (refl, λ slots. rw (e slots))
+
+-- a large buffer has room for a text
+put-first : (out text laterOut : List ℕ) (next : ℕ) → length out ≡ 65536 → PutsWithRoom out 0 text laterOut next → Puts out 0 text laterOut next
+put-first out text laterOut next size p = put-in out 0 text laterOut next (le-leb (0 + 320) (length out) (omega (arith, size))) p
 
 -- the end of input
 module _ (run : Run) (slots out : List ℕ) (begun : ℕ) (n : begun ≡ length (bytesOf (run .line))) where
@@ -150,11 +155,14 @@ module _ (run : Run) (slots out : List ℕ) (begun : ℕ) (n : begun ≡ length 
   closes-line nz r laterSlots laterOut size a =
       let line : take begun (run .line .bytes) ≡ bytesOf (run .line) = rw n (same-front (run .line .bytes) (run .line .count)) in
       let ends : closed (progressOf run slots) ≡ ended (progressOf run slots) = closed-line (progressOf run slots) (λ (z : length (bytesOf (run .line)) ≡ 0). nz (n ∙ z)) in
-      let room : hasRoom out 0 ≡ true = le-leb (0 + 320) (length out) (omega (arith, size)) in
       record {
         reached = rw ends (record {
           later = a .later ∙ rw line;
           lent = a .lent ∙ rw line;
-          puts = put-in out 0 _ laterOut (r .next) room (rw (← line) (a .puts));
+          puts = put-first out _ laterOut (r .next) size (rw (← line) (a .puts));
         });
       }
+
+-- and DONE
+pub puts-done : (book : Book) (out laterOut : List ℕ) (put : ℕ) → length out ≡ 65536 → PutsWithRoom out 0 (doneText (book .accepted) (book .refused)) laterOut put → PutsDone book out put laterOut
+puts-done book out laterOut put size p = record { puts = put-first out _ laterOut put size p }

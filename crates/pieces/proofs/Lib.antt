@@ -3,6 +3,8 @@ pub mod Cut
 pub mod FeedEnds
 pub mod Feeding
 pub mod Joining
-pub mod LastBook
 pub mod LineFound
 pub mod Pieces
+pub mod Ran
+pub mod Taken
+pub mod Written

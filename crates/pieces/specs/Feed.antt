@@ -5,7 +5,7 @@ use mathlib.Core.List.{List, [], _++_}
 use mathlib.Core.Path.{_≡_}
 use Prim.Native.Nat.{ℕ, _+_, _-_, _≤_}
 use lib.ListN.{length, take, drop, replicate}
-use Rattle.model.specs.Answer.{text}
+use Rattle.model.specs.Answer.{text, doneText}
 use Rattle.model.specs.Question.{firstNo}
 use Rattle.model.specs.Step.{asBytes, asked, questions, step}
 use Rattle.state.specs.declared.book.Book.{Book}
@@ -34,6 +34,14 @@ before book slots line = record { book = view book slots; slots = slots; line = 
 
 abbrev pub progressOf : Run → List ℕ → Progress
 progressOf run slots = before (run .book) slots (bytesOf (run .line))
+
+-- what a run answers to the lines that end in some bytes
+abbrev pub textOf : Run → List ℕ → List ℕ → List ℕ
+textOf run slots bytes = takingAll (progressOf run slots) bytes .written
+
+-- some bytes lead a run and its lent list to a later one, and `text` is written on the way
+pub record Leads (run : Run) (slots bytes text : List ℕ) (later : Run) (laterSlots : List ℕ) : Type 0 where
+  pub come : takingAll (progressOf run slots) bytes ≡ record { book = view (later .book) laterSlots; slots = laterSlots; line = bytesOf (later .line); written = text }
 
 abbrev pub IsStart : Run → Type 0
 IsStart run = (run .line ≡ openLine []) × ((slots : List ℕ) → progressOf run slots ≡ start slots)
@@ -74,3 +82,7 @@ pub record Feeds (run : Run) (slots piece out : List ℕ) (r : Fed) (laterSlots 
 -- the end of input
 pub record Closes (run : Run) (slots out : List ℕ) (r : Answered) (laterSlots laterOut : List ℕ) : Type 0 where
   pub reached : Reaches (r .book) laterSlots out (r .next) (closed (progressOf run slots)) laterOut
+
+-- "DONE closes every run: accepted, refused.": those of the book
+pub record PutsDone (book : Book) (out : List ℕ) (put : ℕ) (laterOut : List ℕ) : Type 0 where
+  pub puts : Puts out 0 (doneText (book .accepted) (book .refused)) laterOut put

@@ -1,4 +1,4 @@
--- Document 01, "A run of the book's program", byte by byte: how far a run has come, and what the next byte does. The law that this is the model's run, however the input is cut, is in proofs/Pieces.antt.
+-- Document 01, "A run of the book's program", byte by byte: how far a run has come, and what the next byte does.
 -- Assumes nothing: these are definitions.
 use mathlib.Core.List.{List, [], _∷_, _++_}
 use Prim.Native.Nat.{ℕ, suc, _+_}
@@ -7,7 +7,7 @@ use lib.ListN.{length, take}
 use Rattle.model.specs.Basics.{if_then_else_}
 use Rattle.model.specs.Book.{Book, empty}
 use Rattle.model.specs.Question.{firstNo}
-use Rattle.model.specs.Answer.{text, doneText}
+use Rattle.model.specs.Answer.{text}
 use Rattle.model.specs.Step.{asBytes, asked, questions, step}
 use Rattle.ledger.specs.Does.{slotsAfter}
 
@@ -57,7 +57,3 @@ closedBy s (b ∷ line) = ended s
 
 unfoldable pub closed : Progress → Progress
 closed s = closedBy s (s .line)
-
--- "DONE closes every run": all that is written
-unfoldable pub output : Progress → List ℕ
-output s = closed s .written ++ doneText (closed s .book .accepted) (closed s .book .refused)

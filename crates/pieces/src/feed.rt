@@ -6,10 +6,11 @@ use crate::line::OpenLine;
 use crate::line::count;
 use crate::line::join;
 use answer::text::has_room;
+use answer::text::put_done;
 use state::book::Book;
 use state::book::Patterns;
 use state::book::empty;
-ghost use Rattle.pieces.specs.Feed.{IsStart, Feeds, Closes};
+ghost use Rattle.pieces.specs.Feed.{IsStart, Feeds, Closes, PutsDone};
 
 // What stands between two pieces.
 pub struct Run {
@@ -76,4 +77,11 @@ pub fn close(run: Run, patterns: &mut Patterns, out: &mut [u8; 65536]) -> Answer
     }
     let bytes = line.bytes;
     answer_line(book, patterns, &bytes[..begun], out, 0)
+}
+
+// "DONE closes every run: accepted, refused.": the counts of the last book.
+pub fn done(book: Book, out: &mut [u8; 65536]) -> usize
+    ensures { λ r. ⌜ PutsDone book (now (out .entry)) r (now (out .exit)) ⌝ }
+{
+    put_done(out, 0, book.accepted, book.refused)
 }

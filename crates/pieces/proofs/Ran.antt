@@ -1,0 +1,56 @@
+-- Every whole run of the code is the model's: whatever the input and however it is cut, what was put is `run` of it, and demand 3 holds of the book that is left.
+-- Assumes nothing.
+use mathlib.Core.List.{List, [], _∷_, _++_, append-assoc}
+use mathlib.Core.Path.{_≡_, refl, sym, ap, _∙_}
+use Prim.Native.Nat.{ℕ}
+use lib.ListN.{take}
+use Rattle.model.specs.Book.{Book, empty}
+use Rattle.model.specs.Answer.{doneText}
+use Rattle.model.specs.Run.{run, after, recordsOf}
+use Rattle.model.proofs.Demand.{demand-of-input}
+use Rattle.state.specs.declared.book.Book as code
+use Rattle.state.specs.View.{view}
+use Rattle.pieces.specs.declared.answer_line.Answered.{Answered}
+use Rattle.pieces.specs.declared.feed.Run.{Run}
+use Rattle.pieces.specs.Progress.{Progress, start, takingAll, closed}
+use Rattle.pieces.specs.Feed.{bytesOf, progressOf, Leads, IsStart, Closes, PutsDone}
+use Rattle.pieces.specs.Ran.{FedInTurn, none, one, Ran, ran, IsRun}
+use Rattle.pieces.proofs.Pieces.{said, Ends, run-is}
+use Rattle.pieces.proofs.Written.{after-text, closed-after, text-put, leads-none, leads-here, leads-on, feed-leads}
+
+-- `feed`s in turn are one
+pub fed-leads : {begun : Run} {first taken written : List ℕ} {run : Run} {slots : List ℕ} → FedInTurn begun first taken written run slots → Leads begun first taken written run slots
+fed-leads {begun} {first} none = leads-none begun first
+fed-leads (one before f) = leads-on _ _ _ _ _ _ (fed-leads before) _ _ _ _ (feed-leads _ _ _ _ _ _ _ f)
+
+module _ (begun : Run) (first input written : List ℕ) (last : Run) (slots : List ℕ) (s : IsStart begun) (l : Leads begun first input written last slots) (out : List ℕ) (a : Answered) (laterSlots laterOut : List ℕ)
+    (c : Closes last slots out a laterSlots laterOut) where
+  abbrev end : Progress
+  end = closed (progressOf last slots)
+
+  -- the end of input
+  closed-here : closed (takingAll (start first) input) ≡ after-text written end
+  closed-here =
+      rw (← (s .1 first), leads-here begun first input written last slots l)
+      (closed-after written (progressOf last slots) (bytesOf (last .line)) refl)
+
+  model : Ends (start first) (recordsOf input) (after-text written end)
+  model = rw closed-here at (run-is first input)
+
+  last-book : view (a .book) laterSlots ≡ after empty (recordsOf input)
+  last-book = c .reached .later ∙ model .book
+
+  all-put : (doneOut : List ℕ) (put : ℕ) (lastOut : List ℕ) → PutsDone (a .book) doneOut put lastOut → (written ++ take (a .next) laterOut) ++ take put lastOut ≡ run input
+  unfolding run
+  all-put doneOut put lastOut d =
+      let answer : take (a .next) laterOut ≡ end .written = text-put out _ laterOut (a .next) (c .reached .puts) in
+      let counts : take put lastOut ≡ doneText (end .book .accepted) (end .book .refused) =
+      text-put doneOut _ lastOut put (d .puts) ∙ ap (λ (b : Book). doneText (b .accepted) (b .refused)) (c .reached .later) in
+      rw (answer, counts) (model .text)
+
+  pub is-run : (doneOut : List ℕ) (put : ℕ) (lastOut : List ℕ) → PutsDone (a .book) doneOut put lastOut → IsRun input ((written ++ take (a .next) laterOut) ++ take put lastOut) (a .book) laterSlots
+  is-run doneOut put lastOut d = record { text = all-put doneOut put lastOut d; later = last-book; demand = rw last-book (demand-of-input input) }
+
+-- the theorem
+pub run-of-code : {input written : List ℕ} {book : code.Book} {slots : List ℕ} → Ran input written book slots → IsRun input written book slots
+run-of-code (ran s f c d) = is-run _ _ _ _ _ _ s (fed-leads f) _ _ _ _ c _ _ _ d
