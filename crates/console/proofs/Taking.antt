@@ -1,31 +1,113 @@
--- The loop that feeds a piece: how far it is.
+-- A piece, part after part; piece after piece; and the end of input: what is handed to the writes.
 -- Assumes nothing.
-use mathlib.Core.List.{List, [], _∷_}
-use mathlib.Core.Path.{_≡_, refl}
+use mathlib.Core.List.{List, [], _++_}
+use mathlib.Core.Path.{_≡_, sym, ap, _∙_}
 use mathlib.Core.Bool.{Bool, true, false}
-use Prim.Native.Nat.{ℕ, _+_, _-_, _≤_}
+use Prim.Native.Nat.{ℕ, _+_, _-_, _≤_, _<_}
 use native.Mathlib.Omega.{arith}
-use lib.Dec.{leb}
-use lib.ListN.{length, take, drop, length-take, length-drop}
+use lib.ListN.{length, take, drop, length-drop}
+use lib.Seq.{take-all, take-add}
+use Rattle.model.specs.Book.{Book}
+use Rattle.model.specs.Answer.{doneText}
+use Rattle.model.specs.Run as model
+use Rattle.model.proofs.Lists.{true≢false}
+use Rattle.pieces.specs.declared.answer_line.Answered.{Answered}
 use Rattle.pieces.specs.declared.feed.Run.{Run}
 use Rattle.pieces.specs.declared.feed.Fed.{Fed}
-use Rattle.pieces.specs.Progress.{Progress, taking, takenOf}
-use Rattle.pieces.specs.Feed.{progressOf, Feeds}
+use Rattle.pieces.specs.Progress.{Progress, takingAll}
+use Rattle.pieces.specs.Feed.{textOf, Leads, IsStart, Feeds, Closes, PutsDone}
+use Rattle.pieces.proofs.Joining.{front-length}
+use Rattle.pieces.proofs.Ran.{all-written}
+use Rattle.pieces.proofs.Taken.{taken-few, taken-some}
+use Rattle.pieces.proofs.Written.{text-put, put-inside, leads-none, leads-on, feed-leads}
+use Rattle.console.specs.declared.standard.Taken.{Taken}
+use Rattle.console.specs.Take.{TakesPart, TakesPiece, Led}
+use Rattle.console.specs.Write.{Starts, lastText, closingText}
 
--- no more bytes are taken than there are
-taken-by : (size : ℕ) (s : Progress) (b : ℕ) (rest : List ℕ) → takenOf size (taking s b) rest ≤ length rest → (t : Bool) → leb (length (s .written) + 320) size ≡ t → takenOf size s (b ∷ rest) ≤ length (b ∷ rest)
-unfolding takenOf
-taken-by size s b rest le true e = rw e (omega arith)
-taken-by size s b rest le false e = rw e (omega arith)
+-- the text of a way is what its bytes are answered
+leads-text : (run : Run) (slots bytes text : List ℕ) (later : Run) (laterSlots : List ℕ) → Leads run slots bytes text later laterSlots → Leads run slots bytes (textOf run slots bytes) later laterSlots
+leads-text run slots bytes text later laterSlots l = rw (ap (λ (s : Progress). s .written) (l .come)) l
 
-taken-few : (size : ℕ) (bytes : List ℕ) (s : Progress) → takenOf size s bytes ≤ length bytes
-unfolding takenOf
-taken-few size [] s = omega arith
-taken-few size (b ∷ rest) s = taken-by size s b rest (taken-few size rest (taking s b)) (leb (length (s .written) + 320) size) refl
+-- a part of a piece
+module _ (run : Run) (slots piece out : List ℕ) (r : Fed) (laterSlots laterOut : List ℕ) (f : Feeds run slots piece out r laterSlots laterOut) where
+  pub part-exact : r .taken ≡ length (take (r .taken) piece)
+  part-exact = front-length (r .taken) piece (taken-few _ _ _ _ _ _ _ f)
 
-pub taken-inside : (console : Run) (slots piece out : List ℕ) (at : ℕ) (r : Fed) (laterSlots laterOut : List ℕ) → at ≤ length piece
-    → Feeds console slots (take (length piece - at) (drop at piece)) out r laterSlots laterOut → at + r .taken ≤ length piece
-taken-inside console slots piece out at r laterSlots laterOut le f =
-    let rest = take (length piece - at) (drop at piece) in
-    let most : r .taken ≤ length rest = rw (f .taken) (taken-few (length out) rest (progressOf console slots)) in
-    omega (arith, most, length-take (length piece - at) (drop at piece), length-drop at piece)
+  pub answers-put : Starts laterOut (r .put) (textOf run slots (take (r .taken) piece))
+  answers-put = record { inside = put-inside out _ laterOut (r .put) (f .reached .puts); same = text-put out _ laterOut (r .put) (f .reached .puts) }
+
+  pub takes-part : length out ≡ 65536 → (written : Bool) → TakesPart run slots piece (record { run = r .run; taken = r .taken; written = written }) laterSlots
+  takes-part size written =
+      record {
+        takes = record { few = taken-few _ _ _ _ _ _ _ f; leads = leads-text _ _ _ _ _ _ (feed-leads _ _ _ _ _ _ _ f) };
+        some = taken-some _ _ _ _ _ _ _ f (omega arith);
+      }
+
+-- part after part: the first `at` bytes are taken
+pub record TakenTo (run : Run) (slots piece : List ℕ) (last : Run) (at : ℕ) (laterSlots : List ℕ) : Type 0 where
+  pub few : at ≤ length piece
+  pub leads : Leads run slots (take at piece) (textOf run slots (take at piece)) last laterSlots
+
+pub take-start : (run : Run) (slots piece : List ℕ) → TakenTo run slots piece run 0 slots
+unfolding takingAll
+take-start run slots piece = record { few = omega arith; leads = leads-none run slots }
+
+module _ (run : Run) (slots piece : List ℕ) (last : Run) (at : ℕ) (lent : List ℕ) (t : TakenTo run slots piece last at lent) where
+  rest-is : take (length piece - at) (drop at piece) ≡ drop at piece
+  rest-is = take-all (length piece - at) (drop at piece) (omega (arith, length-drop at piece))
+
+  rest-long : length (take (length piece - at) (drop at piece)) ≡ length piece - at
+  rest-long = rw (rest-is, length-drop at piece)
+
+  module _ (r : Taken) (laterSlots : List ℕ) (p : TakesPart last lent (take (length piece - at) (drop at piece)) r laterSlots) where
+    pub take-fits : at + r .taken ≤ length piece
+    take-fits = omega (arith, p .takes .few, rest-long, t .few)
+
+    pub take-less : at < length piece → length piece - (at + r .taken) < length piece - at
+    take-less lt =
+        let some : 0 < r .taken = p .some (omega (arith, rest-long)) in
+        omega (arith, take-fits)
+
+    pub take-on : TakenTo run slots piece (r .run) (at + r .taken) laterSlots
+    take-on =
+        let split : take (at + r .taken) piece ≡ take at piece ++ take (r .taken) (take (length piece - at) (drop at piece)) = rw rest-is (take-add at (r .taken) piece) in
+        let on = leads-on run slots _ _ last lent (t .leads) _ _ (r .run) laterSlots (p .takes .leads) in
+        record { few = take-fits; leads = rw split (leads-text _ _ _ _ _ _ on) }
+
+    -- a write failed
+    pub take-failed : TakesPiece run slots piece (record { run = r .run; taken = at + r .taken; written = false }) laterSlots
+    take-failed = record { takes = record { few = take-on .few; leads = take-on .leads }; whole = λ (w : false ≡ true). absurd (true≢false (sym w)) }
+
+  pub take-end : length piece ≤ at → TakesPiece run slots piece (record { run = last; taken = at; written = true }) lent
+  take-end ge = record { takes = record { few = t .few; leads = t .leads }; whole = λ w. omega (arith, t .few) }
+
+-- piece after piece
+pub led-start : (run : Run) → IsStart run → (slots : List ℕ) → Led run slots
+unfolding takingAll
+led-start run s slots = record { begun = run; first = slots; input = []; starts = s; leads = leads-none run slots }
+
+pub led-on : (run : Run) (slots : List ℕ) → Led run slots → (piece : List ℕ) (r : Taken) (laterSlots : List ℕ) → TakesPiece run slots piece r laterSlots → Led (r .run) laterSlots
+led-on run slots l piece r laterSlots t =
+    record {
+      begun = l .begun;
+      first = l .first;
+      input = l .input ++ take (r .taken) piece;
+      starts = l .starts;
+      leads = leads-text _ _ _ _ _ _ (leads-on (l .begun) (l .first) _ _ run slots (l .leads) _ _ (r .run) laterSlots (t .takes .leads));
+    }
+
+-- the end of input
+module _ (run : Run) (slots out : List ℕ) (last : Answered) (laterSlots laterOut : List ℕ) (c : Closes run slots out last laterSlots laterOut) where
+  pub last-put : Starts laterOut (last .next) (lastText run slots)
+  last-put = record { inside = put-inside out _ laterOut (last .next) (c .reached .puts); same = text-put out _ laterOut (last .next) (c .reached .puts) }
+
+  pub done-put : (doneOut : List ℕ) (put : ℕ) (lastOut : List ℕ) → PutsDone (last .book) doneOut put lastOut → Starts lastOut put (closingText run slots)
+  done-put doneOut put lastOut d =
+      record {
+        inside = put-inside doneOut _ lastOut put (d .puts);
+        same = text-put doneOut _ lastOut put (d .puts) ∙ ap (λ (b : Book). doneText (b .accepted) (b .refused)) (c .reached .later);
+      }
+
+-- All that is handed to the writes, what the pieces are answered, the last line and DONE, is the model's run of the input.
+pub handed-is : (run : Run) (slots : List ℕ) (l : Led run slots) → (textOf (l .begun) (l .first) (l .input) ++ lastText run slots) ++ closingText run slots ≡ model.run (l .input)
+handed-is run slots l = all-written (l .begun) (l .first) (l .input) _ run slots (l .starts) (l .leads)

@@ -1,4 +1,5 @@
 // From standard input to standard output.
 mod standard;
+mod write;
 
 pub use standard::run;

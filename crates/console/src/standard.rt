@@ -1,12 +1,17 @@
 // A run: standard input is read in pieces, and what a piece is answered is written before the next one is read. A read that fails ends the input; a write that fails ends the run.
-use answer::text::put_done;
+use crate::write::write_answers;
+use crate::write::write_done;
+use crate::write::write_last;
+use libc::EINTR;
 use libc::STDIN_FILENO;
-use libc::STDOUT_FILENO;
 use pieces::feed::Run;
 use pieces::feed::close;
+use pieces::feed::done;
 use pieces::feed::feed;
 use pieces::feed::start;
 use state::book::Patterns;
+ghost use Rattle.io.specs.Counts.{Counts};
+ghost use Rattle.console.specs.Take.{TakesPiece, TakesPart, Led};
 
 pub fn run() {
     let mut patterns = [0u64; 1650];
@@ -16,14 +21,13 @@ pub fn run() {
     // A proved loop has to end: no run makes so many turns.
     let mut turns = u64::MAX;
     while turns > 0 {
-        let got = libc::read(STDIN_FILENO, &mut piece);
-        let n = io::count(got, &piece);
+        let n = read_piece(&mut piece);
         if n == 0 {
             break;
         }
         let taken = take_piece(so_far, &mut patterns, &piece[..n], &mut out);
-        if taken.is_written {
-            let later = taken.so_far;
+        if taken.written {
+            let later = taken.run;
             so_far = later;
         } else {
             return;
@@ -33,50 +37,79 @@ pub fn run() {
     finish(so_far, &mut patterns, &mut out);
 }
 
-// The run after a piece, and whether its answers were written.
-struct Taken {
-    so_far: Run,
-    is_written: bool,
+// How many bytes were read, none at the end of input. A read that was only interrupted is made again.
+fn read_piece(piece: &mut [u8; 65536]) -> usize
+    ensures { λ r. ⌜ Counts r (now (piece .exit)) ⌝ }
+{
+    let mut turns = u64::MAX;
+    while turns > 0 {
+        let got = libc::read(STDIN_FILENO, piece);
+        if got >= 0 || os::errno() != EINTR {
+            return io::count(got, piece);
+        }
+        turns -= 1;
+    }
+    0
 }
 
-fn take_piece(so_far: Run, patterns: &mut Patterns, piece: &[u8], out: &mut [u8; 65536]) -> Taken {
-    let mut last = so_far;
+// The run after some bytes of a piece, how many they are, and whether what they are answered was written.
+struct Taken {
+    run: Run,
+    taken: usize,
+    written: bool,
+}
+
+// The whole piece, part after part, unless a write fails.
+fn take_piece(run: Run, patterns: &mut Patterns, piece: &[u8], out: &mut [u8; 65536]) -> Taken
+    ensures { λ r. ⌜ TakesPiece run (now (patterns .entry)) (now (piece .entry)) r (now (patterns .exit)) ⌝ }
+{
+    let mut last = run;
     let mut at = 0;
     while at < piece.len() {
-        let fed = feed(last, patterns, &piece[at..], out);
-        let later = fed.run;
+        let part = take_part(last, patterns, &piece[at..], out);
+        let later = part.run;
         last = later;
-        if fed.taken == 0 {
-            break;
-        }
-        if !write(out, fed.put) {
+        at += part.taken;
+        if !part.written {
             return Taken {
-                so_far: last,
-                is_written: false,
+                run: last,
+                taken: at,
+                written: false,
             };
         }
-        at += fed.taken;
     }
     Taken {
-        so_far: last,
-        is_written: true,
+        run: last,
+        taken: at,
+        written: true,
+    }
+}
+
+// As much of a piece as its answers have room for.
+fn take_part(run: Run, patterns: &mut Patterns, piece: &[u8], out: &mut [u8; 65536]) -> Taken
+    ensures { λ r. ⌜ TakesPart run (now (patterns .entry)) (now (piece .entry)) r (now (patterns .exit)) ⌝ }
+{
+    let lent = *patterns;
+    let fed = feed(run, patterns, piece, out);
+    let taken = fed.taken;
+    let written = write_answers(run, &lent, &piece[..taken], out, fed.put);
+    let later = fed.run;
+    Taken {
+        run: later,
+        taken,
+        written,
     }
 }
 
 // The last line, if one is open, and DONE.
-fn finish(so_far: Run, patterns: &mut Patterns, out: &mut [u8; 65536]) {
-    let last = close(so_far, patterns, out);
-    if write(out, last.next) {
+fn finish(run: Run, patterns: &mut Patterns, out: &mut [u8; 65536])
+    requires { ⌜ Led run (now patterns) ⌝ }
+{
+    let lent = *patterns;
+    let last = close(run, patterns, out);
+    if write_last(run, &lent, out, last.next) {
         let book = last.book;
-        let n = put_done(out, 0, book.accepted, book.refused);
-        write(out, n);
+        let n = done(book, out);
+        write_done(run, &lent, out, n);
     }
-}
-
-// The first n bytes to standard output.
-fn write(out: &[u8], n: usize) -> bool {
-    if n <= out.len() {
-        return io::write_all(STDOUT_FILENO, &out[..n]);
-    }
-    false
 }

@@ -1,7 +1,7 @@
 -- Every whole run of the code is the model's: whatever the input and however it is cut, what was put is `run` of it, and demand 3 holds of the book that is left.
 -- Assumes nothing.
-use mathlib.Core.List.{List, [], _∷_, _++_, append-assoc}
-use mathlib.Core.Path.{_≡_, refl, sym, ap, _∙_}
+use mathlib.Core.List.{List, _++_}
+use mathlib.Core.Path.{_≡_, refl, ap, _∙_}
 use Prim.Native.Nat.{ℕ}
 use lib.ListN.{take}
 use Rattle.model.specs.Book.{Book, empty}
@@ -23,8 +23,7 @@ pub fed-leads : {begun : Run} {first taken written : List ℕ} {run : Run} {slot
 fed-leads {begun} {first} none = leads-none begun first
 fed-leads (one before f) = leads-on _ _ _ _ _ _ (fed-leads before) _ _ _ _ (feed-leads _ _ _ _ _ _ _ f)
 
-module _ (begun : Run) (first input written : List ℕ) (last : Run) (slots : List ℕ) (s : IsStart begun) (l : Leads begun first input written last slots) (out : List ℕ) (a : Answered) (laterSlots laterOut : List ℕ)
-    (c : Closes last slots out a laterSlots laterOut) where
+module _ (begun : Run) (first input written : List ℕ) (last : Run) (slots : List ℕ) (s : IsStart begun) (l : Leads begun first input written last slots) where
   abbrev end : Progress
   end = closed (progressOf last slots)
 
@@ -37,20 +36,25 @@ module _ (begun : Run) (first input written : List ℕ) (last : Run) (slots : Li
   model : Ends (start first) (recordsOf input) (after-text written end)
   model = rw closed-here at (run-is first input)
 
-  last-book : view (a .book) laterSlots ≡ after empty (recordsOf input)
-  last-book = c .reached .later ∙ model .book
-
-  all-put : (doneOut : List ℕ) (put : ℕ) (lastOut : List ℕ) → PutsDone (a .book) doneOut put lastOut → (written ++ take (a .next) laterOut) ++ take put lastOut ≡ run input
+  -- what is written up to there, the answer to the last line, and DONE
+  pub all-written : (written ++ end .written) ++ doneText (end .book .accepted) (end .book .refused) ≡ run input
   unfolding run
-  all-put doneOut put lastOut d =
-      let answer : take (a .next) laterOut ≡ end .written = text-put out _ laterOut (a .next) (c .reached .puts) in
-      let counts : take put lastOut ≡ doneText (end .book .accepted) (end .book .refused) =
-      text-put doneOut _ lastOut put (d .puts) ∙ ap (λ (b : Book). doneText (b .accepted) (b .refused)) (c .reached .later) in
-      rw (answer, counts) (model .text)
+  all-written = model .text
 
-  pub is-run : (doneOut : List ℕ) (put : ℕ) (lastOut : List ℕ) → PutsDone (a .book) doneOut put lastOut → IsRun input ((written ++ take (a .next) laterOut) ++ take put lastOut) (a .book) laterSlots
-  is-run doneOut put lastOut d = record { text = all-put doneOut put lastOut d; later = last-book; demand = rw last-book (demand-of-input input) }
+  module _ (out : List ℕ) (a : Answered) (laterSlots laterOut : List ℕ) (c : Closes last slots out a laterSlots laterOut) (doneOut : List ℕ) (put : ℕ) (lastOut : List ℕ) (d : PutsDone (a .book) doneOut put lastOut) where
+    last-book : view (a .book) laterSlots ≡ after empty (recordsOf input)
+    last-book = c .reached .later ∙ model .book
 
--- the theorem
+    all-put : (written ++ take (a .next) laterOut) ++ take put lastOut ≡ run input
+    all-put =
+        let answer : take (a .next) laterOut ≡ end .written = text-put out _ laterOut (a .next) (c .reached .puts) in
+        let counts : take put lastOut ≡ doneText (end .book .accepted) (end .book .refused) =
+        text-put doneOut _ lastOut put (d .puts) ∙ ap (λ (b : Book). doneText (b .accepted) (b .refused)) (c .reached .later) in
+        rw (answer, counts) all-written
+
+    is-run : IsRun input ((written ++ take (a .next) laterOut) ++ take put lastOut) (a .book) laterSlots
+    is-run = record { text = all-put; later = last-book; demand = rw last-book (demand-of-input input) }
+
+-- whatever the input and however it is cut
 pub run-of-code : {input written : List ℕ} {book : code.Book} {slots : List ℕ} → Ran input written book slots → IsRun input written book slots
 run-of-code (ran s f c d) = is-run _ _ _ _ _ _ s (fed-leads f) _ _ _ _ c _ _ _ d

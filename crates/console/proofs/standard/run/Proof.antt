@@ -1,12 +1,12 @@
 -- `console::standard::run` meets its contract. Assumes nothing.
-use mathlib.Core.Path.{_≡_}
-use lib.ListN.{length}
 use borrow.Author.Needs.{needs}
+use Rattle.console.specs.Take.{Led}
+use Rattle.console.proofs.Taking.{led-start, led-on}
 use Rattle.console.proofs.standard.run.Statement.{statement}
 use Rattle.console.proofs.standard.run.Tie as tie
 
 abbrev Inv-loop : tie.InvT-loop
-Inv-loop patterns₀ so-far₀ piece₀ out₀ turns₀ patterns so-far piece out turns = 65536 ≡ length piece
+Inv-loop patterns₀ so-far₀ piece₀ out₀ turns₀ patterns so-far piece out turns = Led so-far patterns
 
 abbrev μ-loop : tie.MeasureT-loop
 μ-loop patterns₀ so-far₀ piece₀ out₀ turns₀ patterns so-far piece out turns = turns
@@ -21,19 +21,10 @@ large-buffer-requires-2 : tie.Need-large-buffer-requires-2 Inv-loop μ-loop
 large-buffer-requires-2 c κs = search needs
 
 loop-holds : tie.Need-loop-holds Inv-loop μ-loop
-loop-holds c = search needs
+loop-holds c = search led-start
 
-slice-aggregate-read : tie.Need-slice-aggregate-read Inv-loop μ-loop
-slice-aggregate-read c = search needs
-
-read-requires : tie.Need-read-requires Inv-loop μ-loop
-read-requires c κs = search needs
-
-slice-aggregate-count : tie.Need-slice-aggregate-count Inv-loop μ-loop
-slice-aggregate-count c = search needs
-
-count-requires : tie.Need-count-requires Inv-loop μ-loop
-count-requires c κs = search needs
+read-piece-requires : tie.Need-read-piece-requires Inv-loop μ-loop
+read-piece-requires c κs = search needs
 
 array-share-prefix-piece : tie.Need-array-share-prefix-piece Inv-loop μ-loop
 array-share-prefix-piece c = search needs
@@ -54,7 +45,7 @@ loop-less : tie.Need-loop-less Inv-loop μ-loop
 loop-less c = search needs
 
 loop-again : tie.Need-loop-again Inv-loop μ-loop
-loop-again c = search needs
+loop-again c = search led-on
 
 finish-requires : tie.Need-finish-requires Inv-loop μ-loop
 finish-requires c κs = search needs
@@ -72,10 +63,7 @@ run-spec =
     large-buffer-requires
     large-buffer-requires-2
     loop-holds
-    slice-aggregate-read
-    read-requires
-    slice-aggregate-count
-    count-requires
+    read-piece-requires
     array-share-prefix-piece
     slice-aggregate-take-piece
     take-piece-requires

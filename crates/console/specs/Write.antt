@@ -1,0 +1,22 @@
+-- What is handed to a write.
+-- Assumes nothing: these are definitions.
+use mathlib.Core.List.{List}
+use mathlib.Core.Path.{_≡_}
+use Prim.Native.Nat.{ℕ, _≤_}
+use lib.ListN.{length, take}
+use Rattle.model.specs.Answer.{doneText}
+use Rattle.pieces.specs.declared.feed.Run.{Run}
+use Rattle.pieces.specs.Progress.{closed}
+use Rattle.pieces.specs.Feed.{progressOf}
+
+-- the first n bytes of a buffer are a text
+pub record Starts (out : List ℕ) (n : ℕ) (text : List ℕ) : Type 0 where
+  pub inside : n ≤ length out
+  pub same : take n out ≡ text
+
+-- the end of input: the answer to the last line, if one is open, and then DONE with the counts of the book that it leaves
+abbrev pub lastText : Run → List ℕ → List ℕ
+lastText run slots = closed (progressOf run slots) .written
+
+abbrev pub closingText : Run → List ℕ → List ℕ
+closingText run slots = doneText (closed (progressOf run slots) .book .accepted) (closed (progressOf run slots) .book .refused)
