@@ -11,6 +11,7 @@ use Rattle.model.specs.Book.{Book}
 use Rattle.model.specs.Answer.{doneText}
 use Rattle.model.specs.Run as model
 use Rattle.model.proofs.Lists.{true≢false}
+use Rattle.state.specs.declared.book.Book as code
 use Rattle.pieces.specs.declared.answer_line.Answered.{Answered}
 use Rattle.pieces.specs.declared.feed.Run.{Run}
 use Rattle.pieces.specs.declared.feed.Fed.{Fed}
@@ -22,11 +23,11 @@ use Rattle.pieces.proofs.Taken.{taken-few, taken-some}
 use Rattle.pieces.proofs.Written.{text-put, put-inside, leads-none, leads-on, feed-leads}
 use Rattle.console.specs.declared.standard.Taken.{Taken}
 use Rattle.console.specs.Take.{TakesPart, TakesPiece, Led}
-use Rattle.console.specs.Write.{Starts, lastText, closingText}
+use Rattle.console.specs.Write.{Starts, lastAnswer, lastCounts}
 
 -- the text of a way is what its bytes are answered
 leads-text : (run : Run) (slots bytes text : List ℕ) (later : Run) (laterSlots : List ℕ) → Leads run slots bytes text later laterSlots → Leads run slots bytes (textOf run slots bytes) later laterSlots
-leads-text run slots bytes text later laterSlots l = rw (ap (λ (s : Progress). s .written) (l .come)) l
+leads-text run slots bytes text later laterSlots l = rw (ap (λ (s : Progress). s .written) (l .progress)) l
 
 -- a part of a piece
 module _ (run : Run) (slots piece out : List ℕ) (r : Fed) (laterSlots laterOut : List ℕ) (f : Feeds run slots piece out r laterSlots laterOut) where
@@ -98,16 +99,18 @@ led-on run slots l piece r laterSlots t =
 
 -- the end of input
 module _ (run : Run) (slots out : List ℕ) (last : Answered) (laterSlots laterOut : List ℕ) (c : Closes run slots out last laterSlots laterOut) where
-  pub last-put : Starts laterOut (last .next) (lastText run slots)
+  pub last-put : Starts laterOut (last .next) (lastAnswer run slots)
   last-put = record { inside = put-inside out _ laterOut (last .next) (c .reached .puts); same = text-put out _ laterOut (last .next) (c .reached .puts) }
 
-  pub done-put : (doneOut : List ℕ) (put : ℕ) (lastOut : List ℕ) → PutsDone (last .book) doneOut put lastOut → Starts lastOut put (closingText run slots)
-  done-put doneOut put lastOut d =
+  -- DONE has the counts of the last book
+  pub done-put : (book : code.Book) → book .accepted ≡ last .book .accepted → book .refused ≡ last .book .refused
+      → (doneOut : List ℕ) (put : ℕ) (lastOut : List ℕ) → PutsDone book doneOut put lastOut → Starts lastOut put (lastCounts run slots)
+  done-put book accepted refused doneOut put lastOut d =
       record {
         inside = put-inside doneOut _ lastOut put (d .puts);
-        same = text-put doneOut _ lastOut put (d .puts) ∙ ap (λ (b : Book). doneText (b .accepted) (b .refused)) (c .reached .later);
+        same = text-put doneOut _ lastOut put (d .puts) ∙ rw (accepted, refused) (ap (λ (b : Book). doneText (b .accepted) (b .refused)) (c .reached .later));
       }
 
 -- All that is handed to the writes, what the pieces are answered, the last line and DONE, is the model's run of the input.
-pub handed-is : (run : Run) (slots : List ℕ) (l : Led run slots) → (textOf (l .begun) (l .first) (l .input) ++ lastText run slots) ++ closingText run slots ≡ model.run (l .input)
+pub handed-is : (run : Run) (slots : List ℕ) (l : Led run slots) → (textOf (l .begun) (l .first) (l .input) ++ lastAnswer run slots) ++ lastCounts run slots ≡ model.run (l .input)
 handed-is run slots l = all-written (l .begun) (l .first) (l .input) _ run slots (l .starts) (l .leads)

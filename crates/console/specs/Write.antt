@@ -15,8 +15,8 @@ pub record Starts (out : List ℕ) (n : ℕ) (text : List ℕ) : Type 0 where
   pub same : take n out ≡ text
 
 -- the end of input: the answer to the last line, if one is open, and then DONE with the counts of the book that it leaves
-abbrev pub lastText : Run → List ℕ → List ℕ
-lastText run slots = closed (progressOf run slots) .written
+abbrev pub lastAnswer : Run → List ℕ → List ℕ
+lastAnswer run slots = closed (progressOf run slots) .written
 
-abbrev pub closingText : Run → List ℕ → List ℕ
-closingText run slots = doneText (closed (progressOf run slots) .book .accepted) (closed (progressOf run slots) .book .refused)
+abbrev pub lastCounts : Run → List ℕ → List ℕ
+lastCounts run slots = doneText (closed (progressOf run slots) .book .accepted) (closed (progressOf run slots) .book .refused)

@@ -3,7 +3,7 @@ use libc::STDOUT_FILENO;
 use pieces::feed::Run;
 use state::book::Patterns;
 ghost use Rattle.pieces.specs.Feed.{textOf};
-ghost use Rattle.console.specs.Write.{Starts, lastText, closingText};
+ghost use Rattle.console.specs.Write.{Starts, lastAnswer, lastCounts};
 
 // What some bytes are answered.
 pub fn write_answers(run: Run, lent: &Patterns, bytes: &[u8], out: &[u8], n: usize) -> bool
@@ -14,14 +14,14 @@ pub fn write_answers(run: Run, lent: &Patterns, bytes: &[u8], out: &[u8], n: usi
 
 // What the last line is answered, if one is open.
 pub fn write_last(run: Run, lent: &Patterns, out: &[u8], n: usize) -> bool
-    requires { ⌜ Starts (now out) n (lastText run (now lent)) ⌝ }
+    requires { ⌜ Starts (now out) n (lastAnswer run (now lent)) ⌝ }
 {
     io::write_all(STDOUT_FILENO, &out[..n])
 }
 
 // "DONE closes every run: accepted, refused."
 pub fn write_done(run: Run, lent: &Patterns, out: &[u8], n: usize) -> bool
-    requires { ⌜ Starts (now out) n (closingText run (now lent)) ⌝ }
+    requires { ⌜ Starts (now out) n (lastCounts run (now lent)) ⌝ }
 {
     io::write_all(STDOUT_FILENO, &out[..n])
 }

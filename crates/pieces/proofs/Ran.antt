@@ -19,9 +19,9 @@ use Rattle.pieces.proofs.Pieces.{said, Ends, run-is}
 use Rattle.pieces.proofs.Written.{after-text, closed-after, text-put, leads-none, leads-here, leads-on, feed-leads}
 
 -- `feed`s in turn are one
-pub fed-leads : {begun : Run} {first taken written : List ℕ} {run : Run} {slots : List ℕ} → FedInTurn begun first taken written run slots → Leads begun first taken written run slots
-fed-leads {begun} {first} none = leads-none begun first
-fed-leads (one before f) = leads-on _ _ _ _ _ _ (fed-leads before) _ _ _ _ (feed-leads _ _ _ _ _ _ _ f)
+pub turns-lead : {begun : Run} {first taken written : List ℕ} {run : Run} {slots : List ℕ} → FedInTurn begun first taken written run slots → Leads begun first taken written run slots
+turns-lead {begun} {first} none = leads-none begun first
+turns-lead (one before f) = leads-on _ _ _ _ _ _ (turns-lead before) _ _ _ _ (feed-leads _ _ _ _ _ _ _ f)
 
 module _ (begun : Run) (first input written : List ℕ) (last : Run) (slots : List ℕ) (s : IsStart begun) (l : Leads begun first input written last slots) where
   abbrev end : Progress
@@ -57,4 +57,4 @@ module _ (begun : Run) (first input written : List ℕ) (last : Run) (slots : Li
 
 -- whatever the input and however it is cut
 pub run-of-code : {input written : List ℕ} {book : code.Book} {slots : List ℕ} → Ran input written book slots → IsRun input written book slots
-run-of-code (ran s f c d) = is-run _ _ _ _ _ _ s (fed-leads f) _ _ _ _ c _ _ _ d
+run-of-code (ran s f c d) = is-run _ _ _ _ _ _ s (turns-lead f) _ _ _ _ c _ _ _ d

@@ -61,20 +61,20 @@ module _ (out text later : List ℕ) (put : ℕ) (p : Puts out 0 text later put)
 -- no byte leads nowhere, and some bytes and the next ones lead on
 pub leads-none : (run : Run) (slots : List ℕ) → Leads run slots [] [] run slots
 unfolding takingAll
-leads-none run slots = record { come = refl }
+leads-none run slots = record { progress = refl }
 
 pub leads-here : (run : Run) (slots bytes text : List ℕ) (later : Run) (laterSlots : List ℕ) → Leads run slots bytes text later laterSlots
     → takingAll (progressOf run slots) bytes ≡ after-text text (progressOf later laterSlots)
-leads-here run slots bytes text later laterSlots l = rw (append-nil text) (l .come)
+leads-here run slots bytes text later laterSlots l = rw (append-nil text) (l .progress)
 
 pub leads-on : (run : Run) (slots bytes text : List ℕ) (middle : Run) (middleSlots : List ℕ) → Leads run slots bytes text middle middleSlots
     → (more next : List ℕ) (later : Run) (laterSlots : List ℕ) → Leads middle middleSlots more next later laterSlots
     → Leads run slots (bytes ++ more) (text ++ next) later laterSlots
 leads-on run slots bytes text middle middleSlots l more next later laterSlots m =
     record {
-      come = pieces-join (progressOf run slots) bytes more
+      progress = pieces-join (progressOf run slots) bytes more
           ∙ rw (leads-here run slots bytes text middle middleSlots l) (all-after text more (progressOf middle middleSlots))
-          ∙ ap (after-text text) (m .come);
+          ∙ ap (after-text text) (m .progress);
     }
 
 -- what `feed` promises
@@ -83,5 +83,5 @@ pub feed-leads : (run : Run) (slots piece out : List ℕ) (r : Fed) (laterSlots 
 feed-leads run slots piece out r laterSlots laterOut f =
     let s : Progress = takingAll (progressOf run slots) (take (r .taken) piece) in
     record {
-      come = rw (f .reached .later, ← (f .reached .lent), open-bytes (r .run .line) (s .line) (f .unended), text-put out (s .written) laterOut (r .put) (f .reached .puts));
+      progress = rw (f .reached .later, ← (f .reached .lent), open-bytes (r .run .line) (s .line) (f .unended), text-put out (s .written) laterOut (r .put) (f .reached .puts));
     }

@@ -41,7 +41,7 @@ textOf run slots bytes = takingAll (progressOf run slots) bytes .written
 
 -- some bytes lead a run and its lent list to a later one, and `text` is written on the way
 pub record Leads (run : Run) (slots bytes text : List ℕ) (later : Run) (laterSlots : List ℕ) : Type 0 where
-  pub come : takingAll (progressOf run slots) bytes ≡ record { book = view (later .book) laterSlots; slots = laterSlots; line = bytesOf (later .line); written = text }
+  pub progress : takingAll (progressOf run slots) bytes ≡ record { book = view (later .book) laterSlots; slots = laterSlots; line = bytesOf (later .line); written = text }
 
 abbrev pub IsStart : Run → Type 0
 IsStart run = (run .line ≡ openLine []) × ((slots : List ℕ) → progressOf run slots ≡ start slots)

@@ -1,4 +1,4 @@
-// The input in pieces of any size: what stands between two pieces, and what a piece does. proofs/Pieces.antt has the law that the pieces' records are the lines of the whole input.
+// The input in pieces of any size: what stands between two pieces, what a piece does, the end of input, and DONE. proofs/Ran.antt has the theorem that a whole run of these is the model's.
 mod answer_line;
 mod answer_lines;
 pub mod feed;
