@@ -22,7 +22,7 @@ use Rattle.pieces.proofs.Ran.{all-written}
 use Rattle.pieces.proofs.Taken.{taken-few, taken-some}
 use Rattle.pieces.proofs.Written.{text-put, put-inside, leads-none, leads-on, feed-leads}
 use Rattle.console.specs.declared.standard.Taken.{Taken}
-use Rattle.console.specs.Take.{TakesPart, TakesPiece, Led}
+use Rattle.console.specs.Take.{Takes, TakesPart, TakesPiece, Led}
 use Rattle.console.specs.Write.{Starts, lastAnswer, lastCounts}
 
 -- the text of a way is what its bytes are answered
@@ -44,16 +44,12 @@ module _ (run : Run) (slots piece out : List ℕ) (r : Fed) (laterSlots laterOut
         some = taken-some _ _ _ _ _ _ _ f (omega arith);
       }
 
--- part after part: the first `at` bytes are taken
-pub record TakenTo (run : Run) (slots piece : List ℕ) (last : Run) (at : ℕ) (laterSlots : List ℕ) : Type 0 where
-  pub few : at ≤ length piece
-  pub leads : Leads run slots (take at piece) (textOf run slots (take at piece)) last laterSlots
-
-pub take-start : (run : Run) (slots piece : List ℕ) → TakenTo run slots piece run 0 slots
+-- part after part
+pub take-start : (run : Run) (slots piece : List ℕ) → Takes run slots piece 0 run slots
 unfolding takingAll
 take-start run slots piece = record { few = omega arith; leads = leads-none run slots }
 
-module _ (run : Run) (slots piece : List ℕ) (last : Run) (at : ℕ) (lent : List ℕ) (t : TakenTo run slots piece last at lent) where
+module _ (run : Run) (slots piece : List ℕ) (at : ℕ) (last : Run) (lent : List ℕ) (t : Takes run slots piece at last lent) where
   rest-is : take (length piece - at) (drop at piece) ≡ drop at piece
   rest-is = take-all (length piece - at) (drop at piece) (omega (arith, length-drop at piece))
 
@@ -69,7 +65,7 @@ module _ (run : Run) (slots piece : List ℕ) (last : Run) (at : ℕ) (lent : Li
         let some : 0 < r .taken = p .some (omega (arith, rest-long)) in
         omega (arith, take-fits)
 
-    pub take-on : TakenTo run slots piece (r .run) (at + r .taken) laterSlots
+    pub take-on : Takes run slots piece (at + r .taken) (r .run) laterSlots
     take-on =
         let split : take (at + r .taken) piece ≡ take at piece ++ take (r .taken) (take (length piece - at) (drop at piece)) = rw rest-is (take-add at (r .taken) piece) in
         let on = leads-on run slots _ _ last lent (t .leads) _ _ (r .run) laterSlots (p .takes .leads) in
@@ -77,10 +73,10 @@ module _ (run : Run) (slots piece : List ℕ) (last : Run) (at : ℕ) (lent : Li
 
     -- a write failed
     pub take-failed : TakesPiece run slots piece (record { run = r .run; taken = at + r .taken; written = false }) laterSlots
-    take-failed = record { takes = record { few = take-on .few; leads = take-on .leads }; whole = λ (w : false ≡ true). absurd (true≢false (sym w)) }
+    take-failed = record { takes = take-on; whole = λ (w : false ≡ true). absurd (true≢false (sym w)) }
 
   pub take-end : length piece ≤ at → TakesPiece run slots piece (record { run = last; taken = at; written = true }) lent
-  take-end ge = record { takes = record { few = t .few; leads = t .leads }; whole = λ w. omega (arith, t .few) }
+  take-end ge = record { takes = t; whole = λ w. omega (arith, t .few) }
 
 -- piece after piece
 pub led-start : (run : Run) → IsStart run → (slots : List ℕ) → Led run slots

@@ -9,19 +9,19 @@ use Rattle.pieces.specs.declared.feed.Run.{Run}
 use Rattle.pieces.specs.Feed.{textOf, Leads, IsStart}
 use Rattle.console.specs.declared.standard.Taken.{Taken}
 
--- some bytes of a piece are taken: where the run and the lent list are then
-pub record Takes (run : Run) (slots piece : List ℕ) (r : Taken) (laterSlots : List ℕ) : Type 0 where
-  pub few : r .taken ≤ length piece
-  pub leads : Leads run slots (take (r .taken) piece) (textOf run slots (take (r .taken) piece)) (r .run) laterSlots
+-- the first bytes of a piece are taken: where the run and the lent list are then
+pub record Takes (run : Run) (slots piece : List ℕ) (taken : ℕ) (later : Run) (laterSlots : List ℕ) : Type 0 where
+  pub few : taken ≤ length piece
+  pub leads : Leads run slots (take taken piece) (textOf run slots (take taken piece)) later laterSlots
 
 -- a part of it: at least one byte, if there is one
 pub record TakesPart (run : Run) (slots piece : List ℕ) (r : Taken) (laterSlots : List ℕ) : Type 0 where
-  pub takes : Takes run slots piece r laterSlots
+  pub takes : Takes run slots piece (r .taken) (r .run) laterSlots
   pub some : 0 < length piece → 0 < r .taken
 
 -- all of it, if all that it is answered was written
 pub record TakesPiece (run : Run) (slots piece : List ℕ) (r : Taken) (laterSlots : List ℕ) : Type 0 where
-  pub takes : Takes run slots piece r laterSlots
+  pub takes : Takes run slots piece (r .taken) (r .run) laterSlots
   pub whole : r .written ≡ true → r .taken ≡ length piece
 
 -- from the start of a run, some input leads here

@@ -2,12 +2,13 @@
 use Prim.Native.Nat.{_-_}
 use lib.ListN.{length}
 use borrow.Author.Needs.{needs}
-use Rattle.console.proofs.Taking.{TakenTo, take-start, take-fits, take-less, take-on, take-failed, take-end}
+use Rattle.console.specs.Take.{Takes}
+use Rattle.console.proofs.Taking.{take-start, take-fits, take-less, take-on, take-failed, take-end}
 use Rattle.console.proofs.standard.take_piece.Statement.{statement}
 use Rattle.console.proofs.standard.take_piece.Tie as tie
 
 abbrev Inv-loop : tie.InvT-loop
-Inv-loop patterns₀ piece out₀ last₀ at₀ patterns out last at = TakenTo last₀ patterns₀ piece last at patterns
+Inv-loop patterns₀ piece out₀ last₀ at₀ patterns out last at = Takes last₀ patterns₀ piece at last patterns
 
 abbrev μ-loop : tie.MeasureT-loop
 μ-loop patterns₀ piece out₀ last₀ at₀ patterns out last at = length piece - at
