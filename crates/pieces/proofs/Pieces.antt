@@ -22,7 +22,7 @@ pieces-join s [] next = refl
 pieces-join s (b ∷ piece) next = pieces-join (taking s b) piece next
 
 -- all that is written, with DONE
-abbrev pub said : Progress → List ℕ
+abbrev said : Progress → List ℕ
 said s = s .written ++ doneText (s .book .accepted) (s .book .refused)
 
 -- the end of a run that has these requests before it

@@ -15,7 +15,7 @@ use Rattle.pieces.specs.declared.feed.Run.{Run}
 use Rattle.pieces.specs.Progress.{Progress, start, takingAll, closed}
 use Rattle.pieces.specs.Feed.{bytesOf, progressOf, Leads, IsStart, Closes, PutsDone}
 use Rattle.pieces.specs.Ran.{FedInTurn, none, one, Ran, ran, IsRun}
-use Rattle.pieces.proofs.Pieces.{said, Ends, run-is}
+use Rattle.pieces.proofs.Pieces.{Ends, run-is}
 use Rattle.pieces.proofs.Written.{after-text, closed-after, text-put, leads-none, leads-here, leads-on, feed-leads}
 
 -- `feed`s in turn are one

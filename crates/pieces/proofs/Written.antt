@@ -8,12 +8,11 @@ use native.Mathlib.Omega.{arith}
 use lib.Dec.{eqb}
 use lib.ListN.{length, take, drop, length-append}
 use lib.Seq.{take-at}
-use Rattle.state.specs.View.{view}
 use Rattle.answer.specs.Put.{placed, Puts}
 use Rattle.pieces.specs.declared.feed.Run.{Run}
 use Rattle.pieces.specs.declared.feed.Fed.{Fed}
 use Rattle.pieces.specs.Progress.{Progress, ended, lengthened, taking, takingAll, closed}
-use Rattle.pieces.specs.Feed.{bytesOf, progressOf, Leads, Feeds}
+use Rattle.pieces.specs.Feed.{progressOf, Leads, Feeds}
 use Rattle.pieces.proofs.Joining.{open-bytes}
 use Rattle.pieces.proofs.Pieces.{pieces-join}
 
