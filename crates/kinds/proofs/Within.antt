@@ -1,11 +1,59 @@
--- A test of a kind, by the variant that its constructor chose.
+-- A number that a constructor is given, by the variant that it chose: within its limits, or not.
 -- Assumes nothing.
 use mathlib.Core.Bool.{Bool, true, false}
-use mathlib.Core.Path.{_≡_, sym, _∙_}
+use mathlib.Core.Path.{_≡_, refl}
+use Prim.Native.Nat.{ℕ}
+use native.Mathlib.Omega.{arith}
+use borrow.Author.Tests.{leb-true}
 use Rattle.model.specs.Basics.{if_then_else_}
+use Rattle.model.specs.Kind.{isRate}
+use Rattle.kinds.specs.Factor.{isFactor, factorOf, factorNumber}
+use Rattle.kinds.specs.Rate.{rateOf, rateNumber}
+use Rattle.kinds.specs.declared.factor.Factor.{Factor}
+use Rattle.kinds.specs.declared.factor.MaybeFactor.{MaybeFactor}
+use Rattle.kinds.specs.declared.factor.MaybeFactor.the-variants as factor
+use Rattle.kinds.specs.declared.rate.Rate.{Rate}
+use Rattle.kinds.specs.declared.rate.MaybeRate.{MaybeRate}
+use Rattle.kinds.specs.declared.rate.MaybeRate.the-variants as rate
 
 -- `told` tells the variant `within` from `outside`
 module _ {A : Type 0} (told : A → Bool) (within outside : A) (yes : told within ≡ true) (no : told outside ≡ false) where
   pub told-by : (p : Bool) (x : A) → x ≡ (if p then within else outside) → told x ≡ p
   told-by true x e = rw e yes
   told-by false x e = rw e no
+
+-- x is m where the test p holds, and `outside` where it does not
+module _ {M : Type 0} (outside : M) where
+  pub taken : (p : Bool) (m x : M) → x ≡ (if p then m else outside) → (y : M) → (y ≡ outside → ⊥) → x ≡ y → (p ≡ true) × (x ≡ m)
+  taken true m x ex y n e = (refl, ex)
+  taken false m x ex y n e = absurd (n (cc))
+
+  pub left : (p : Bool) (m x : M) → x ≡ (if p then m else outside) → (p ≡ true → m ≡ outside → ⊥) → x ≡ outside → p ≡ false
+  left true m x ex n e = absurd (n refl (cc))
+  left false m x ex n e = refl
+
+rate-apart : (v : Rate) → rate.Within v ≡ rate.Outside → ⊥
+rate-apart v e = let z : _≡_ {A = ℕ} 0 1 = cc in omega arith
+
+module _ (n : ℕ) (x : MaybeRate) (ex : x ≡ rateOf n) where
+  pub rate-within : (v : Rate) → x ≡ rate.Within v → (isRate n ≡ true) × (rateNumber v ≡ n)
+  rate-within v e =
+      let t = taken rate.Outside (isRate n) (rate.Within (record { value = n })) x ex (rate.Within v) (rate-apart v) e in
+      let same : v ≡ record { value = n } = cc (t .1) in
+      (t .0, rw same (omega (arith, leb-true n 2500 (t .0))))
+
+  pub rate-outside : x ≡ rate.Outside → isRate n ≡ false
+  rate-outside e = left rate.Outside (isRate n) (rate.Within (record { value = n })) x ex (λ t. rate-apart (record { value = n })) e
+
+factor-apart : (v : Factor) → factor.Within v ≡ factor.Outside → ⊥
+factor-apart v e = let z : _≡_ {A = ℕ} 0 1 = cc in omega arith
+
+module _ (n : ℕ) (x : MaybeFactor) (ex : x ≡ factorOf n) where
+  pub factor-within : (v : Factor) → x ≡ factor.Within v → (isFactor n ≡ true) × (factorNumber v ≡ n)
+  factor-within v e =
+      let t = taken factor.Outside (isFactor n) (factor.Within (record { value = n })) x ex (factor.Within v) (factor-apart v) e in
+      let same : v ≡ record { value = n } = cc (t .1) in
+      (t .0, rw same (omega (arith, leb-true n 10000000000 (t .0))))
+
+  pub factor-outside : x ≡ factor.Outside → isFactor n ≡ false
+  factor-outside e = left factor.Outside (isFactor n) (factor.Within (record { value = n })) x ex (λ t. factor-apart (record { value = n })) e
