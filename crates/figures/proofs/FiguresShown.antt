@@ -2,11 +2,11 @@
 -- Assumes nothing.
 use mathlib.Core.Bool.{Bool, true, false}
 use mathlib.Core.Path.{_≡_}
-use Prim.Native.Nat.{ℕ, min}
+use Prim.Native.Nat.{ℕ}
 use Rattle.model.specs.Kind.{isYear}
 use Rattle.state.specs.declared.book.Book.{Book}
 use Rattle.state.specs.declared.book.Line.{Line}
-use Rattle.state.specs.Lines.{lineAt}
+use Rattle.state.specs.Lines.{lineAt, declaredOpening, lastClosing}
 use Rattle.state.specs.View.{lineOf}
 use Rattle.state.proofs.Views.{line-is}
 use Rattle.figures.specs.declared.line_figures.LineFigures.{LineFigures}
@@ -19,12 +19,12 @@ module _ (line : Line) (r : LineFigures) where
   unfolding lineOf
   undeclared d e slots letter = rw (d, e)
 
-  module _ (d : line .declared ≡ true) (opening : ℕ) (eo : opening ≡ min (line .opening) 100000000000) (t : Bool) (et : t ≡ isYear (line .closed)) where
+  module _ (d : line .declared ≡ true) (opening : ℕ) (eo : opening ≡ declaredOpening line) (t : Bool) (et : t ≡ isYear (line .closed)) where
     pub declared-open : t ≡ false → r ≡ figures.Open opening → LineFiguresAre line r
     unfolding lineOf
     declared-open y e slots letter = rw (e, eo, d, ← et, y)
 
-    pub declared-closed : t ≡ true → (closing : ℕ) → closing ≡ min (line .closing) 110000000000 → r ≡ figures.Closed opening (line .closed) closing → LineFiguresAre line r
+    pub declared-closed : t ≡ true → (closing : ℕ) → closing ≡ lastClosing line → r ≡ figures.Closed opening (line .closed) closing → LineFiguresAre line r
     unfolding lineOf
     declared-closed y closing ec e slots letter = rw (e, eo, ec, d, ← et, y)
 

@@ -1,9 +1,9 @@
 // A line's figures: its opening, and its last closing.
 use kinds::year::is_year;
-use money::closing::Closing;
-use money::opening::Opening;
 use state::book::Book;
 use state::book::Line;
+use state::lines::declared_opening;
+use state::lines::last_closing;
 use state::lines::line_of;
 ghost use Rattle.figures.specs.LineFigures.{FiguresAre, LineFiguresAre};
 
@@ -31,19 +31,14 @@ fn figures_of(line: Line) -> LineFigures
     ensures { λ r. ⌜ LineFiguresAre line r ⌝ }
 {
     if line.declared {
-        let declared = Opening {
-            value: line.opening,
-        };
-        let opening = declared.number();
+        let opening = declared_opening(line);
         let year = line.closed;
         if is_year(year) {
-            let last = Closing {
-                value: line.closing,
-            };
+            let closing = last_closing(line);
             return LineFigures::Closed {
                 opening,
                 year,
-                closing: last.number(),
+                closing,
             };
         }
         return LineFigures::Open { opening };

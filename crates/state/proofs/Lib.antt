@@ -1,3 +1,4 @@
+pub mod CellLimits
 pub mod EmptyBook
 pub mod FactorLimits
 pub mod KeptPatterns

@@ -4,9 +4,9 @@ use mathlib.Core.Path.{_≡_, refl, sym, ap, _∙_, fun-ext}
 use mathlib.Core.Bool.{Bool, true, false, false≢true}
 use mathlib.Core.List.{List}
 use mathlib.Core.Option.{none, some}
-use Prim.Native.Nat.{ℕ, _-_, _*_, _≤_, _<_, min}
+use Prim.Native.Nat.{ℕ, _-_, _*_, _≤_, _<_}
 use native.Mathlib.Omega.{arith}
-use borrow.Author.Tests.{eqb-true, eqb-false, leb-true, le-leb, lt-leb}
+use borrow.Author.Tests.{eqb-true, eqb-false, leb-true, le-leb}
 use lib.Dec.{eqb, leb}
 use lib.ListN.{length, getD, set}
 use lib.Seq.{getD-set-same, getD-set-other}
@@ -15,6 +15,11 @@ use mir.Val.{Fits}
 use Rattle.model.specs.Basics.{if_then_else_, put}
 use Rattle.model.specs.Kind.{isYear}
 use Rattle.model.proofs.Lists.{and-left, and-right}
+use Rattle.kinds.specs.Rate.{rateOf, rateNumber}
+use Rattle.kinds.specs.declared.rate.Rate.{Rate}
+use Rattle.kinds.specs.declared.rate.MaybeRate.{MaybeRate}
+use Rattle.kinds.specs.declared.rate.MaybeRate.the-variants.{Within, Outside}
+use Rattle.kinds.proofs.Within.{rate-within, rate-outside}
 use Rattle.state.specs.Rates.{rateIn, ratesOf}
 
 -- a year and its place
@@ -28,19 +33,23 @@ module _ (year : ℕ) (e : isYear year ≡ true) where
   pub place-fits : Fits w64 ((year - 1987) * 2)
   place-fits = record { fits = omega (arith, year-place) }
 
--- what code reads at a year
-module _ (places : List ℕ) (year : ℕ) where
-  pub given-rate : isYear year ≡ true → getD places (year - 1987) 0 ≤ 2500 → some (min (getD places (year - 1987) 0) 2500) ≡ ratesOf places year
+-- what code reads at a year: x is what the constructor answers of its place
+module _ (places : List ℕ) (year : ℕ) (t : Bool) (et : t ≡ isYear year) where
+  pub no-year : t ≡ false → none ≡ ratesOf places year
   unfolding ratesOf
-  given-rate e le = rw (e, le-leb (getD places (year - 1987) 0) 2500 le) (ap some (omega arith))
+  no-year e = rw (← et, e)
 
-  pub missing-rate : isYear year ≡ true → 2500 < getD places (year - 1987) 0 → none ≡ ratesOf places year
-  unfolding ratesOf
-  missing-rate e lt = rw (e, lt-leb (getD places (year - 1987) 0) 2500 lt)
+  module _ (e : t ≡ true) (x : MaybeRate) (ex : x ≡ rateOf (getD places (year - 1987) 0)) where
+    abbrev n : ℕ
+    n = getD places (year - 1987) 0
 
-  pub no-year : isYear year ≡ false → none ≡ ratesOf places year
-  unfolding ratesOf
-  no-year e = rw e
+    pub given-rate : (v : Rate) → x ≡ Within v → some (rateNumber v) ≡ ratesOf places year
+    unfolding ratesOf
+    given-rate v ev = rw (← et, e, rate-within n x ex v ev .0) (ap some (rate-within n x ex v ev .1))
+
+    pub missing-rate : x ≡ Outside → none ≡ ratesOf places year
+    unfolding ratesOf
+    missing-rate eo = rw (← et, e, rate-outside n x ex eo)
 
 -- a store, seen at any year
 module _ (places : List ℕ) (year rate : ℕ) (l : length places ≡ 113) (e : isYear year ≡ true) (le : rate ≤ 2500) where

@@ -1,7 +1,7 @@
 -- The lines of the covered letters, each at its place.
 -- Assumes nothing: these are definitions.
 use mathlib.Core.Bool.{true, false}
-use Prim.Native.Nat.{ℕ, _-_}
+use Prim.Native.Nat.{ℕ, _-_, min}
 use lib.Dec.{leb}
 use lib.ListN.{getD, set}
 use Rattle.model.specs.Basics.{if_then_else_}
@@ -20,6 +20,13 @@ noLine = record { declared = false; opening = 0; closed = 0; closing = 0; last =
 -- a letter's line: a letter that is not covered has an undeclared one
 abbrev pub lineAt : Book → ℕ → Line
 lineAt book letter = if covered letter then getD (book .lines) (placeOf letter) noLine else noLine
+
+-- "the last closing, or the declared opening": what lies past its limit is read as the limit
+abbrev pub declaredOpening : Line → ℕ
+declaredOpening line = min (line .opening) 100000000000
+
+abbrev pub lastClosing : Line → ℕ
+lastClosing line = min (line .closing) 110000000000
 
 -- the book with a line anew: as it was, where the letter is not covered
 abbrev pub withLineOf : Book → ℕ → Line → Book

@@ -3,7 +3,7 @@
 use mathlib.Core.List.{List, []}
 use mathlib.Core.Path.{_≡_}
 use mathlib.Core.Option.{none, some}
-use Prim.Native.Nat.{ℕ, min}
+use Prim.Native.Nat.{ℕ}
 use lib.ListN.{getD}
 use Rattle.model.specs.Basics.{if_then_else_}
 use Rattle.model.specs.Kind.{isYear}
@@ -12,14 +12,14 @@ use Rattle.model.specs.Book as model
 use Rattle.state.specs.declared.book.Book.{Book}
 use Rattle.state.specs.declared.book.Line.{Line}
 use Rattle.state.specs.Rates.{ratesOf}
-use Rattle.state.specs.Lines.{placeOf, noLine}
+use Rattle.state.specs.Lines.{placeOf, noLine, declaredOpening, lastClosing}
 use Rattle.state.specs.Patterns.{keptCount, keptBack}
 
 unfoldable pub lineOf : List ℕ → ℕ → Line → model.Line
 lineOf slots letter line =
     record {
-      opening = if line .declared then some (min (line .opening) 100000000000) else none;
-      closed = if isYear (line .closed) then some (record { year = line .closed; closing = min (line .closing) 110000000000 }) else none;
+      opening = if line .declared then some (declaredOpening line) else none;
+      closed = if isYear (line .closed) then some (record { year = line .closed; closing = lastClosing line }) else none;
       kept = keptBack slots letter (keptCount letter line) (line .last);
     }
 

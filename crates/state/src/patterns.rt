@@ -3,6 +3,7 @@ use crate::book::Line;
 use crate::book::Patterns;
 use crate::cells::slot_of;
 use kinds::factor::Factor;
+use kinds::factor::MaybeFactor;
 use kinds::year::is_year;
 use letters::letter::ages;
 use letters::letter::is_covered;
@@ -10,7 +11,7 @@ ghost use mathlib.Core.List.{[], _∷_, _++_};
 ghost use mathlib.Core.Path.{_≡_};
 ghost use Prim.Native.Nat.{_<_, _≤_};
 ghost use lib.ListN.{length};
-ghost use Rattle.state.specs.Patterns.{factorAt, keptCount, withSlotOf};
+ghost use Rattle.state.specs.Patterns.{factorIn, factorAt, keptCount, withSlotOf};
 
 // How many patterns a line keeps.
 pub fn kept_count(letter: u8, line: Line) -> usize
@@ -37,10 +38,19 @@ pub fn factor_in(patterns: &Patterns, letter: u8, year: u64, place: usize) -> u6
     }
     if is_covered(letter) {
         let at = slot_of(letter, year) * 11 + place;
-        let factor = Factor { value: slots[at] };
-        return factor.number();
+        return factor_of(slots[at]);
     }
     0
+}
+
+// The factor that a cell holds: past 1 it is read as 1.
+fn factor_of(cell: u64) -> u64
+    ensures { λ r. ⌜ r ≡ factorIn cell ⌝ }
+{
+    match Factor::new(cell) {
+        MaybeFactor::Within(factor) => factor.number(),
+        MaybeFactor::Outside => Factor::ONE,
+    }
 }
 
 // The slot of a letter and an accident year anew. A letter that is not covered has no slot.

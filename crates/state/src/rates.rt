@@ -1,5 +1,6 @@
 // The rate places, one for each year from 1987 to 2099.
 use crate::book::Book;
+use kinds::rate::MaybeRate;
 use kinds::rate::Rate;
 use kinds::year::Year;
 use kinds::year::is_year;
@@ -18,11 +19,10 @@ pub fn rate_of(book: Book, year: u64) -> YearRate
 {
     if is_year(year) {
         let place = (year - Year::FIRST) as usize;
-        let rate = book.rates[place] as u64;
-        if rate <= Rate::MOST {
-            return YearRate::Given(Rate { value: rate });
-        }
-        return YearRate::Missing;
+        return match Rate::new(book.rates[place] as u64) {
+            MaybeRate::Within(rate) => YearRate::Given(rate),
+            MaybeRate::Outside => YearRate::Missing,
+        };
     }
     YearRate::Missing
 }

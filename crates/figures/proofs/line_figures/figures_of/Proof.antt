@@ -4,14 +4,14 @@ use Rattle.figures.proofs.FiguresShown.{undeclared, declared-open, decl
 use Rattle.figures.proofs.line_figures.figures_of.Statement.{statement}
 use Rattle.figures.proofs.line_figures.figures_of.Tie as tie
 
-number-requires : tie.Need-number-requires
-number-requires c κs = search needs
+declared-opening-requires : tie.Need-declared-opening-requires
+declared-opening-requires c κs = search needs
 
 is-year-requires : tie.Need-is-year-requires
 is-year-requires c κs = search needs
 
-number-requires-2 : tie.Need-number-requires-2
-number-requires-2 c κs = search needs
+last-closing-requires : tie.Need-last-closing-requires
+last-closing-requires c κs = search needs
 
 returns : tie.Need-returns
 returns c = search declared-closed
@@ -23,4 +23,4 @@ returns-3 : tie.Need-returns-3
 returns-3 c = search undeclared
 
 pub figures-of-spec : {M : Type 1} → statement M
-figures-of-spec = tie.close (tie.spec number-requires is-year-requires number-requires-2 returns returns-2 returns-3)
+figures-of-spec = tie.close (tie.spec declared-opening-requires is-year-requires last-closing-requires returns returns-2 returns-3)

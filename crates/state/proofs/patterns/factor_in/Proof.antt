@@ -1,6 +1,6 @@
 -- `state::patterns::factor_in` meets its contract. Assumes nothing.
-use mathlib.Core.Path.{sym, _∙_}
 use borrow.Author.Needs.{needs}
+use mathlib.Core.Path.{sym, _∙_}
 use Rattle.state.proofs.Writes.{slot-read, no-slot, past-slot}
 use Rattle.state.proofs.patterns.factor_in.Statement.{statement}
 use Rattle.state.proofs.patterns.factor_in.Tie as tie
@@ -20,14 +20,14 @@ mul-at c = search needs
 add-at : tie.Need-add-at
 add-at c = search needs
 
-mul-t11 : tie.Need-mul-t11
-mul-t11 c = search needs
+mul-factor-of : tie.Need-mul-factor-of
+mul-factor-of c = search needs
 
-shared-slice-read-t14 : tie.Need-shared-slice-read-t14
-shared-slice-read-t14 c = search needs
+shared-slice-read-factor-of : tie.Need-shared-slice-read-factor-of
+shared-slice-read-factor-of c = search needs
 
-number-requires : tie.Need-number-requires
-number-requires c κs = search needs
+factor-of-requires : tie.Need-factor-of-requires
+factor-of-requires c κs = search needs
 
 returns-2 : tie.Need-returns-2
 returns-2 c = search slot-read
@@ -44,8 +44,8 @@ factor-in-spec =
     slot-of-requires
     mul-at
     add-at
-    mul-t11
-    shared-slice-read-t14
-    number-requires
+    mul-factor-of
+    shared-slice-read-factor-of
+    factor-of-requires
     returns-2
     returns-3)

@@ -1,6 +1,6 @@
 -- `state::rates::rate_of` meets its contract. Assumes nothing.
-use mathlib.Core.Path.{sym, _∙_}
 use borrow.Author.Needs.{needs}
+use mathlib.Core.Path.{sym, _∙_}
 use Rattle.state.proofs.RatePlaces.{first-year, year-place, place-fits, given-rate, missing-rate, no-year}
 use Rattle.state.proofs.rates.rate_of.Statement.{statement}
 use Rattle.state.proofs.rates.rate_of.Tie as tie
@@ -11,23 +11,32 @@ is-year-requires c κs = search needs
 sub-place : tie.Need-sub-place
 sub-place c = first-year (c .before .before .args .year) (sym (c .before .is-year .ensures) ∙ c .if1 .taken)
 
-mul-rate : tie.Need-mul-rate
-mul-rate c = place-fits (c .before .before .args .year) (sym (c .before .is-year .ensures) ∙ c .if1 .taken)
+mul-new : tie.Need-mul-new
+mul-new c = place-fits (c .before .before .args .year) (sym (c .before .is-year .ensures) ∙ c .if1 .taken)
 
-element-copy-out-rate : tie.Need-element-copy-out-rate
-element-copy-out-rate c = year-place (c .before .before .args .year) (sym (c .before .is-year .ensures) ∙ c .if1 .taken)
+element-copy-out-new : tie.Need-element-copy-out-new
+element-copy-out-new c = year-place (c .before .before .args .year) (sym (c .before .is-year .ensures) ∙ c .if1 .taken)
 
-cast-rate : tie.Need-cast-rate
-cast-rate c = search needs
+cast-new : tie.Need-cast-new
+cast-new c = search needs
+
+new-requires : tie.Need-new-requires
+new-requires c κs = search needs
+
+enum-known-rate : tie.Need-enum-known-rate
+enum-known-rate c = search needs
+
+enum-told : tie.Need-enum-told
+enum-told c = search needs
 
 returns : tie.Need-returns
-returns c = let a = c .before .before .before .before .args in given-rate (a .t1 .rates) (a .year) (sym (c .before .before .before .is-year .ensures) ∙ c .before .before .if1 .taken) (c .if2 .taken)
+returns c = search given-rate
 
 returns-2 : tie.Need-returns-2
-returns-2 c = let a = c .before .before .before .before .args in missing-rate (a .t1 .rates) (a .year) (sym (c .before .before .before .is-year .ensures) ∙ c .before .before .if1 .taken) (c .if2 .left)
+returns-2 c = search missing-rate
 
 returns-3 : tie.Need-returns-3
-returns-3 c = let a = c .before .before .args in no-year (a .t1 .rates) (a .year) (sym (c .before .is-year .ensures) ∙ c .if1 .left)
+returns-3 c = search no-year
 
 pub rate-of-spec : {M : Type 1} → statement M
 rate-of-spec =
@@ -35,9 +44,12 @@ rate-of-spec =
     (tie.spec
     is-year-requires
     sub-place
-    mul-rate
-    element-copy-out-rate
-    cast-rate
+    mul-new
+    element-copy-out-new
+    cast-new
+    new-requires
+    enum-known-rate
+    enum-told
     returns
     returns-2
     returns-3)
