@@ -1,15 +1,15 @@
 -- The rows of a year, as the code goes through them: how far its loops are, and what they leave.
 -- Assumes nothing.
-use mathlib.Core.Bool.{true, false, _&&_}
+use mathlib.Core.Bool.{Bool, true, false, _&&_}
 use mathlib.Core.List.{List, [], _∷_}
 use mathlib.Core.Logic.{⊎-elim}
-use mathlib.Core.Path.{_≡_, refl, _∙_}
-use Prim.Native.Nat.{ℕ, zero, suc, _+_, _-_, _≤_, _<_, min}
+use mathlib.Core.Path.{_≡_, refl, sym, _∙_}
+use Prim.Native.Nat.{ℕ, zero, suc, _+_, _-_, _≤_, _<_}
 use native.Mathlib.Nat.{eq-or-lt-of-le}
 use native.Mathlib.Numerals.{add-one}
 use native.Mathlib.Omega.{arith}
-use borrow.Author.Tests.{eq-eqb, ne-eqb, lt-ltb, le-ltb}
-use lib.Dec.{eqb}
+use borrow.Author.Tests.{eq-eqb, ne-eqb, lt-ltb, le-ltb, ltb-true, ltb-false}
+use lib.Dec.{eqb, ltb}
 use lib.ListN.{length, take, getD, set, replicate, length-take, length-set, drop-of-length-le}
 use lib.Seq.{getD-set-same, getD-set-other}
 use Rattle.model.specs.Letter.{ages}
@@ -47,18 +47,20 @@ module _ (unpaid tabular : List ℕ) (n first k : ℕ) (a : Asked unpaid tabular
   next : k < n → havePatterns first n unpaid tabular ≡ eqb (getD unpaid k 0 + getD tabular k 0) 0 && havePatterns (suc k) n unpaid tabular
   next lt = a .rest ∙ have-next k n unpaid tabular lt (omega arith) (omega arith)
 
-  pub ask-on : (g : ℕ) → k < n → g ≡ min (getD unpaid k 0) 10000000000 + min (getD tabular k 0) 10000000000 → g ≤ 0 → Asked unpaid tabular n first (k + 1)
+  -- g is whether the row at place k has gross
+  pub ask-on : (g : Bool) → k < n → g ≡ ltb 0 (getD unpaid k 0 + getD tabular k 0) → g ≡ false → Asked unpaid tabular n first (k + 1)
   ask-on g lt eg no-gross =
       record {
         inside-unpaid = a .inside-unpaid;
         inside-tabular = a .inside-tabular;
-        rest = next lt ∙ rw (eq-eqb (getD unpaid k 0 + getD tabular k 0) 0 (omega arith), add-one);
+        rest = next lt ∙ rw (eq-eqb (getD unpaid k 0 + getD tabular k 0) 0 (omega (arith, ltb-false 0 (getD unpaid k 0 + getD tabular k 0) (sym eg ∙ no-gross))), add-one);
       }
 
   module _ (letter : ℕ) (line : Line) (en : n ≡ ages letter) (ef : first ≡ keptCount letter line) where
-    pub ask-stop : (g : ℕ) → k < n → g ≡ min (getD unpaid k 0) 10000000000 + min (getD tabular k 0) 10000000000 → 0 < g
-        → false ≡ havePatterns (keptCount letter line) (ages letter) unpaid tabular
-    ask-stop g lt eg some-gross = rw (← en, ← ef, next lt, ne-eqb (getD unpaid k 0 + getD tabular k 0) 0 (λ e. omega arith))
+    pub ask-stop : (g : Bool) → k < n → g ≡ ltb 0 (getD unpaid k 0 + getD tabular k 0) → g ≡ true → false ≡ havePatterns (keptCount letter line) (ages letter) unpaid tabular
+    ask-stop g lt eg some-gross =
+        let above = ltb-true 0 (getD unpaid k 0 + getD tabular k 0) (sym eg ∙ some-gross) in
+        rw (← en, ← ef, next lt, ne-eqb (getD unpaid k 0 + getD tabular k 0) 0 (λ e. omega (arith, above)))
 
     pub ask-end : n ≤ k → true ≡ havePatterns (keptCount letter line) (ages letter) unpaid tabular
     ask-end le = rw (← en, ← ef, a .rest, have-end k n unpaid tabular le)

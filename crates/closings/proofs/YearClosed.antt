@@ -4,7 +4,7 @@ use mathlib.Core.Bool.{Bool, true, false, _&&_}
 use mathlib.Core.List.{List, []}
 use mathlib.Core.Path.{_≡_, refl, sym, ap, _∙_}
 use mathlib.Core.Option.{none, some}
-use Prim.Native.Nat.{ℕ, suc, _≤_, _<_, min}
+use Prim.Native.Nat.{ℕ, suc, _≤_, _<_}
 use native.Mathlib.Omega.{arith}
 use lib.IntN.{ℤ}
 use lib.ListN.{length}
@@ -19,7 +19,7 @@ use Rattle.model.specs.Step.{withClosing, accept}
 use Rattle.model.proofs.Lists.{and-left, and-right}
 use Rattle.reserve.specs.YearEnd.{hasLimits, yearEnd}
 use Rattle.reserve.specs.declared.year_end.YearEnd.{YearEnd}
-use Rattle.reserve.specs.declared.year_end.Verdict.the-variants.{Fine}
+use Rattle.refusal.specs.declared.Verdict.the-variants.{Fine}
 use Rattle.reserve.proofs.Closings.{RowFactors, closing-of-line}
 use Rattle.reserve.proofs.Lists.{rows-count}
 use Rattle.reserve.proofs.Verdicts.{limits-of-year, closing-limit, year-end-of-line}
@@ -27,7 +27,7 @@ use Rattle.state.specs.declared.book.Book.{Book}
 use Rattle.state.specs.declared.book.Line.{Line}
 use Rattle.ledger.specs.declared.answer.Answer.the-variants as answer
 use Rattle.ledger.specs.declared.answer.Outcome.{Outcome}
-use Rattle.state.specs.Lines.{withLineOf, withClosingOf}
+use Rattle.state.specs.Lines.{declaredOpening, lastClosing, withLineOf, withClosingOf}
 use Rattle.state.specs.Patterns.{keptCount}
 use Rattle.closings.specs.Rows.{FactorsOf}
 use Rattle.state.specs.View.{lineOf, view}
@@ -46,14 +46,14 @@ opening-by false t year declared closed e = let z : _≡_ {A = ℕ} 0 1 = cc in 
 
 opening-is : (slots : List ℕ) (letter : ℕ) (line : Line) → line .declared ≡ true → opening (lineOf slots letter line) ≡ openingOf line
 unfolding lineOf
-opening-is slots letter line d = opening-by (line .declared) (isYear (line .closed)) (line .closed) (min (line .opening) 100000000000) (min (line .closing) 110000000000) d
+opening-is slots letter line d = opening-by (line .declared) (isYear (line .closed)) (line .closed) (declaredOpening line) (lastClosing line) d
 
-small-by : (t : Bool) (a b : ℕ) → (if t then min a 110000000000 else min b 100000000000) ≤ 110000000000
-small-by true a b = omega arith
-small-by false a b = omega arith
+small-by : (t : Bool) (a b : ℕ) → a ≤ 110000000000 → b ≤ 110000000000 → (if t then a else b) ≤ 110000000000
+small-by true a b ha hb = ha
+small-by false a b ha hb = hb
 
 opening-small : (line : Line) → openingOf line ≤ 110000000000
-opening-small line = small-by (isYear (line .closed)) (line .closing) (line .opening)
+opening-small line = small-by (isYear (line .closed)) (lastClosing line) (declaredOpening line) (omega arith) (omega arith)
 
 -- the line with the year closed
 closed-line : (slots : List ℕ) (letter : ℕ) (line : Line) (year amount : ℕ) → isYear year ≡ true → amount ≤ 110000000000 → lineOf slots letter (withClosingOf line year amount) ≡ withClosing (lineOf slots letter line) year amount
@@ -91,12 +91,10 @@ module _ (book : Book) (line : Line) (letter year : ℕ) (paid : List ℤ) (unpa
         rw (← (closing-of-line letter shown year factors rows (rw (rows-count letter paid unpaid tabular (pre .turned .sound .lengths)) row-factors)))
         (closing-limit letter paid unpaid tabular (pre .turned .sound .lengths) has-limits factors)
 
-    end-is : yearEnd letter paid unpaid tabular factors (min (openingOf line) 110000000000) ≡ record { verdict = Fine; paid = paidTotal rows; closing = amount; loss = loss (paidTotal rows) amount (openingOf line) }
-    end-is =
-        let o : min (openingOf line) 110000000000 ≡ openingOf line = omega (arith, opening-small line) in
-        rw o (year-end-of-line letter paid unpaid tabular (pre .turned .sound .lengths) has-limits factors shown year (openingOf line) row-factors)
+    end-is : yearEnd letter paid unpaid tabular factors (openingOf line) ≡ record { verdict = Fine; paid = paidTotal rows; closing = amount; loss = loss (paidTotal rows) amount (openingOf line) }
+    end-is = year-end-of-line letter paid unpaid tabular (pre .turned .sound .lengths) has-limits factors shown year (openingOf line) (opening-small line) row-factors
 
-    pub year-closed : length (book .lines) ≡ 15 → (o : ℕ) → o ≡ openingOf line → (end : YearEnd) → end ≡ yearEnd letter paid unpaid tabular factors (min o 110000000000)
+    pub year-closed : length (book .lines) ≡ 15 → (o : ℕ) → o ≡ openingOf line → (end : YearEnd) → end ≡ yearEnd letter paid unpaid tabular factors o
         → (closed : Line) → closed ≡ withClosingOf line year (end .closing) → (later : Book) → later ≡ withLineOf book letter closed
         → (p : ℤ) → p ≡ end .paid → (v : ℤ) → v ≡ end .loss → (r : Outcome) → r ≡ acceptedOf later (answer.Tax letter year p o (end .closing) v) nothing → Settled (view book slots) (closeYear letter year paid unpaid tabular) slots r slots
     unfolding accept slotsAfter

@@ -3,7 +3,7 @@
 use mathlib.Core.Bool.{Bool, true, false, not}
 use mathlib.Core.List.{List}
 use mathlib.Core.Path.{_≡_}
-use Prim.Native.Nat.{ℕ, min}
+use Prim.Native.Nat.{ℕ}
 use lib.Dec.{eqb}
 use lib.IntN.{ℤ}
 use Rattle.model.specs.Basics.{if_then_else_}
@@ -13,7 +13,7 @@ use Rattle.model.specs.Call.{closeYear}
 use Rattle.model.specs.Question.{Sound}
 use Rattle.state.specs.declared.book.Book.{Book}
 use Rattle.state.specs.declared.book.Line.{Line}
-use Rattle.state.specs.Lines.{lineAt}
+use Rattle.state.specs.Lines.{lineAt, declaredOpening, lastClosing}
 use Rattle.state.specs.Patterns.{keptCount}
 use Rattle.closings.specs.Rows.{havePatterns}
 
@@ -23,8 +23,9 @@ isDue letter line year =
     if eqb (keptCount letter line) 0 then false else
     (if eqb year (line .last) then (if isYear (line .closed) then not (eqb (line .closed) year) else true) else false)
 
+-- "Opening is the last closing, or the declared opening."
 abbrev pub openingOf : Line → ℕ
-openingOf line = if isYear (line .closed) then min (line .closing) 110000000000 else min (line .opening) 100000000000
+openingOf line = if isYear (line .closed) then lastClosing line else declaredOpening line
 
 -- a YEAR that questions 3 to 10 let through
 pub record Turned (book : Book) (line : Line) (letter year : ℕ) (paid : List ℤ) (unpaid tabular : List ℕ) : Type 0 where

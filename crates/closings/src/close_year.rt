@@ -7,8 +7,6 @@ use ledger::answer::Answer;
 use ledger::answer::Outcome;
 use ledger::refuse::refuse;
 use letters::letter::is_covered;
-use money::closing::Closing;
-use money::opening::Opening;
 use refusal::Refusal;
 use reserve::questions::has_lengths;
 use reserve::questions::has_limits;
@@ -16,6 +14,8 @@ use reserve::year_end::year_end;
 use state::book::Book;
 use state::book::Line;
 use state::book::Patterns;
+use state::lines::declared_opening;
+use state::lines::last_closing;
 use state::lines::line_of;
 use state::lines::with_line;
 use state::patterns::kept_count;
@@ -131,8 +131,7 @@ fn end_year(
 {
     let factors = row_factors(patterns, letter, line);
     let opening = opening_of(line);
-    let before = Closing { value: opening };
-    let end = year_end(letter, paid, unpaid, tabular, &factors, before);
+    let end = year_end(letter, paid, unpaid, tabular, &factors, opening);
     let closing = end.closing;
     let later = with_line(book, letter, with_closing(line, year, closing));
     accept(
@@ -154,15 +153,9 @@ fn opening_of(line: Line) -> u64
     ensures { λ r. ⌜ r ≡ openingOf line ⌝ }
 {
     if is_year(line.closed) {
-        let last = Closing {
-            value: line.closing,
-        };
-        return last.number();
+        return last_closing(line);
     }
-    let declared = Opening {
-        value: line.opening,
-    };
-    declared.number()
+    declared_opening(line)
 }
 
 // The line with one more year closed.

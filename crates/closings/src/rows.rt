@@ -1,7 +1,6 @@
 // The patterns that the rows of a year take.
 use letters::letter::ages;
-use money::amount::Amount;
-use reserve::row::gross;
+use reserve::row::has_gross;
 use state::book::Line;
 use state::book::Patterns;
 use state::patterns::factor_in;
@@ -20,9 +19,7 @@ pub fn have_patterns(letter: u8, line: Line, unpaid: &[u64], tabular: &[u64]) ->
     let ages = ages(letter);
     let mut k = kept_count(letter, line);
     while k < ages {
-        let stated = Amount { value: unpaid[k] };
-        let disclosed = Amount { value: tabular[k] };
-        if gross(stated, disclosed) > 0 {
+        if has_gross(unpaid[k], tabular[k]) {
             return false;
         }
         k += 1;

@@ -4,6 +4,7 @@ pub mod Conjunctions
 pub mod Lists
 pub mod Losses
 pub mod Paids
+pub mod Rows
 pub mod Sample
 pub mod Values
 pub mod Verdicts

@@ -1,9 +1,9 @@
 -- What questions 4 and 6, answered yes, say of the lists of a year: what the helpers of a year end ask, and how large the figures are.
 -- Assumes nothing.
-use mathlib.Core.Bool.{Bool, true, _&&_}
+use mathlib.Core.Bool.{true}
 use mathlib.Core.List.{List, [], _∷_}
 use mathlib.Core.Path.{_≡_, refl, ap}
-use Prim.Native.Nat.{ℕ, suc, _*_, _≤_, min}
+use Prim.Native.Nat.{ℕ, suc, _*_, _≤_}
 use native.Mathlib.Omega.{arith}
 use borrow.Author.Tests.{eqb-true, leb-true}
 use lib.Dec.{eqb}
@@ -21,9 +21,8 @@ use Rattle.model.proofs.Lists.{and-left, and-right}
 use Rattle.model.proofs.Ages.{ages-small}
 use Rattle.money.proofs.Signed.{sum-size}
 use Rattle.reserve.specs.Closing.{discountedRows, closingAt}
-use Rattle.reserve.specs.Figures.{Figures}
 use Rattle.reserve.specs.Lists.{PaidList, ReserveLists, paidSum, statedRows}
-use Rattle.reserve.specs.YearEnd.{hasLimits}
+use Rattle.reserve.proofs.Conjunctions.{three}
 use Rattle.reserve.proofs.Values.{at-most-unpaid}
 
 -- ten thousand million for each row
@@ -43,7 +42,7 @@ closing-size factors k (u ∷ unpaid) [] e = omega arith
 closing-size factors k (u ∷ unpaid) (t ∷ tabular) e =
     omega (
       arith,
-      at-most-unpaid (stated u t) (published (min (getD factors k 0) 10000000000)),
+      at-most-unpaid (stated u t) (published (getD factors k 0)),
       leb-true u 10000000000 (and-left (isAmount u) (all isAmount unpaid) e),
       closing-size factors (suc k) unpaid tabular (and-right (isAmount u) (all isAmount unpaid) e),
     )
@@ -70,15 +69,15 @@ count-of-rows (v ∷ paid) [] tabular eu et = absurd (omega arith)
 count-of-rows (v ∷ paid) (u ∷ unpaid) [] eu et = absurd (omega arith)
 count-of-rows (v ∷ paid) (u ∷ unpaid) (t ∷ tabular) eu et = ap suc (count-of-rows paid unpaid tabular (omega arith) (omega arith))
 
-three : (a b c : Bool) → a && b && c ≡ true → (a ≡ true) × (b ≡ true) × (c ≡ true)
-three a b c e = (and-left a b (and-left (a && b) c e), and-right a b (and-left (a && b) c e), and-right (a && b) c e)
-
 module _ (letter : ℕ) (paid : List ℤ) (unpaid tabular : List ℕ) (lengths : hasLengths (closeYear letter 0 paid unpaid tabular) ≡ true) where
   length-is : (length paid ≡ suc (ages letter)) × (length unpaid ≡ suc (ages letter)) × (length tabular ≡ suc (ages letter))
   length-is =
       let n = suc (ages letter) in
       let t = three (eqb (length paid) n) (eqb (length unpaid) n) (eqb (length tabular) n) lengths in
       (eqb-true (length paid) n (t .0), eqb-true (length unpaid) n (t .1), eqb-true (length tabular) n (t .2))
+
+  pub unpaid-count : length unpaid ≡ suc (ages letter)
+  unpaid-count = length-is .1
 
   pub rows-count : length (rowsOf paid unpaid tabular) ≡ suc (ages letter)
   rows-count = omega (arith, length-is, count-of-rows paid unpaid tabular (omega (arith, length-is)) (omega (arith, length-is)))
@@ -90,26 +89,20 @@ module _ (letter : ℕ) (paid : List ℤ) (unpaid tabular : List ℕ) (lengths :
   pub closing-is : (factors : List ℕ) → closingAt factors (rowsOf paid unpaid tabular) ≡ closingAt factors (statedRows unpaid tabular)
   closing-is factors = ap sum (discounted-of-rows factors 0 paid unpaid tabular (omega (arith, length-is)))
 
-  module _ (limits : hasLimits paid unpaid tabular ≡ true) where
-    limits-are : (all isPaid paid ≡ true) × (all isAmount unpaid ≡ true) × (all isAmount tabular ≡ true)
-    limits-are = three (all isPaid paid) (all isAmount unpaid) (all isAmount tabular) limits
+  pub reserve-lists : (factors : List ℕ) → length factors ≡ 11 → ReserveLists unpaid tabular factors
+  reserve-lists factors e =
+      record {
+        few = omega (arith, length-is, ages-small letter);
+        same = omega (arith, length-is);
+        enough = omega (arith, length-is, ages-small letter);
+      }
 
+  pub closing-small : all isAmount unpaid ≡ true → (factors : List ℕ) → closingAt factors (statedRows unpaid tabular) ≤ 110000000000
+  closing-small limits factors = omega (arith, closing-size factors 0 unpaid tabular limits, length-is, ages-small letter)
+
+  module _ (limits : all isPaid paid ≡ true) where
     pub paid-list : PaidList paid
-    paid-list = record { few = omega (arith, length-is, ages-small letter); limits = limits-are .0 }
+    paid-list = record { few = omega (arith, length-is, ages-small letter); limits = limits }
 
-    pub reserve-lists : ReserveLists unpaid tabular
-    reserve-lists =
-        record {
-          few = omega (arith, length-is, ages-small letter);
-          same = omega (arith, length-is);
-          unpaidLimits = limits-are .1;
-          tabularLimits = limits-are .2;
-        }
-
-    pub figures : (factors : List ℕ) (opening : ℕ) → opening ≤ 110000000000 → Figures (paidSum paid) (closingAt factors (statedRows unpaid tabular)) opening
-    figures factors opening h =
-        record {
-          paidLimit = omega (arith, paid-size paid (limits-are .0), length-is, ages-small letter);
-          closingLimit = omega (arith, closing-size factors 0 unpaid tabular (limits-are .1), length-is, ages-small letter);
-          openingLimit = h;
-        }
+    pub paid-small : natAbs (paidSum paid) ≤ 110000000000
+    paid-small = omega (arith, paid-size paid limits, length-is, ages-small letter)

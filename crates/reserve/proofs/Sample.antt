@@ -8,7 +8,9 @@ use Rattle.model.specs.Letter.{tenYear, ages}
 use Rattle.model.specs.Row.{discounted}
 use Rattle.model.specs.YearEnd.{paidTotal}
 use Rattle.reserve.specs.YearEnd.{refused, yearEnd}
-use Rattle.reserve.specs.declared.year_end.Verdict.the-variants.{Fine, Length, Limits}
+use Rattle.refusal.specs.Number.{refusalOf}
+use Rattle.refusal.specs.declared.Refusal.the-variants.{WrongCount, OutsideLimits}
+use Rattle.refusal.specs.declared.Verdict.the-variants.{Fine}
 
 -- the kept factors of the run's patterns
 abbrev kept : List ℕ
@@ -27,10 +29,19 @@ pub below-zero : yearEnd 74 (negsuc 9 ∷ pos 0 ∷ pos 0 ∷ []) (0 ∷ 10 ∷ 
 unfolding yearEnd ages paidTotal discounted tenYear
 below-zero = refl
 
-pub short : yearEnd 74 (pos 0 ∷ pos 0 ∷ []) (0 ∷ 0 ∷ 0 ∷ []) (0 ∷ 0 ∷ 0 ∷ []) kept 0 ≡ refused Length
-unfolding yearEnd ages tenYear
+pub short : yearEnd 74 (pos 0 ∷ pos 0 ∷ []) (0 ∷ 0 ∷ 0 ∷ []) (0 ∷ 0 ∷ 0 ∷ []) kept 0 ≡ refused WrongCount
+unfolding yearEnd ages tenYear refusalOf
 short = refl
 
-pub past-limit : yearEnd 74 (pos 0 ∷ pos 0 ∷ negsuc 10000000000 ∷ []) (0 ∷ 0 ∷ 0 ∷ []) (0 ∷ 0 ∷ 0 ∷ []) kept 0 ≡ refused Limits
-unfolding yearEnd ages tenYear
+pub past-limit : yearEnd 74 (pos 0 ∷ pos 0 ∷ negsuc 10000000000 ∷ []) (0 ∷ 0 ∷ 0 ∷ []) (0 ∷ 0 ∷ 0 ∷ []) kept 0 ≡ refused OutsideLimits
+unfolding yearEnd ages tenYear refusalOf
 past-limit = refl
+
+-- a kept factor past 1, of a row and past the rows
+pub past-one : yearEnd 74 (pos 0 ∷ pos 0 ∷ pos 0 ∷ []) (0 ∷ 0 ∷ 0 ∷ []) (0 ∷ 0 ∷ 0 ∷ []) (0 ∷ 0 ∷ 10000000001 ∷ []) 0 ≡ refused OutsideLimits
+unfolding yearEnd ages tenYear refusalOf
+past-one = refl
+
+pub past-rows : yearEnd 74 (pos 0 ∷ pos 0 ∷ pos 0 ∷ []) (0 ∷ 0 ∷ 0 ∷ []) (0 ∷ 0 ∷ 0 ∷ []) (0 ∷ 0 ∷ 0 ∷ 10000000001 ∷ []) 0 ≡ record { verdict = Fine; paid = pos 0; closing = 0; loss = pos 0 }
+unfolding yearEnd ages paidTotal discounted tenYear
+past-rows = refl

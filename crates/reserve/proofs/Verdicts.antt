@@ -4,7 +4,7 @@ use mathlib.Core.Bool.{Bool, true, false, _&&_}
 use mathlib.Core.List.{List}
 use mathlib.Core.Path.{_≡_, refl}
 use Prim.Native.Nat.{ℕ, suc, _≤_}
-use native.Mathlib.Omega.{arith}
+use borrow.Author.Tests.{le-leb}
 use lib.IntN.{ℤ}
 use Rattle.model.specs.Basics.{all}
 use Rattle.model.specs.Book.{Line}
@@ -16,9 +16,10 @@ use Rattle.model.specs.Row.{rowsOf}
 use Rattle.model.specs.YearEnd.{paidTotal, closing, loss}
 use Rattle.reserve.specs.Closing.{closingAt}
 use Rattle.reserve.specs.YearEnd.{hasLimits, yearEnd}
-use Rattle.reserve.specs.declared.year_end.Verdict.the-variants.{Fine}
-use Rattle.reserve.proofs.Closings.{RowFactors, closing-of-line}
-use Rattle.reserve.proofs.Lists.{closing-is, rows-count, figures}
+use Rattle.refusal.specs.declared.Verdict.the-variants.{Fine}
+use Rattle.reserve.proofs.Closings.{RowFactors, closing-of-line, factors-within}
+use Rattle.reserve.proofs.Conjunctions.{three}
+use Rattle.reserve.proofs.Lists.{unpaid-count, rows-count, closing-is, closing-small}
 
 regroup : (y a b c : Bool) → (y && a && b && c) ≡ (y && (a && b && c))
 regroup true a b c = refl
@@ -32,12 +33,21 @@ module _ (letter : ℕ) (paid : List ℤ) (unpaid tabular : List ℕ) where
   module _ (lengths : hasLengths (closeYear letter 0 paid unpaid tabular) ≡ true) (limits : hasLimits paid unpaid tabular ≡ true) (factors : List ℕ) where
     -- what a Closing holds
     pub closing-limit : closingAt factors (rowsOf paid unpaid tabular) ≤ 110000000000
-    closing-limit = rw (closing-is letter paid unpaid tabular lengths factors) (figures letter paid unpaid tabular lengths limits factors 0 (omega arith) .closingLimit)
+    closing-limit =
+        rw (closing-is letter paid unpaid tabular lengths factors)
+        (closing-small letter paid unpaid tabular lengths (three (all isPaid paid) (all isAmount unpaid) (all isAmount tabular) limits .1) factors)
 
-    pub year-end-of-line : (line : Line) (year opening : ℕ) → RowFactors letter line year factors (suc (ages letter)) →
+    pub year-end-of-line : (line : Line) (year opening : ℕ) → opening ≤ 110000000000 → RowFactors letter line year factors (suc (ages letter)) →
         let rows = rowsOf paid unpaid tabular in
         yearEnd letter paid unpaid tabular factors opening
         ≡ record { verdict = Fine; paid = paidTotal rows; closing = closing letter line year rows; loss = loss (paidTotal rows) (closing letter line year rows) opening }
     unfolding yearEnd
-    year-end-of-line line year opening f =
-        rw (lengths, limits, closing-of-line letter line year factors (rowsOf paid unpaid tabular) (rw (rows-count letter paid unpaid tabular lengths) f))
+    year-end-of-line line year opening le f =
+        rw (
+          lengths,
+          limits,
+          unpaid-count letter paid unpaid tabular lengths,
+          factors-within letter line year factors (suc (ages letter)) f,
+          le-leb opening 110000000000 le,
+          closing-of-line letter line year factors (rowsOf paid unpaid tabular) (rw (rows-count letter paid unpaid tabular lengths) f),
+        )

@@ -1,61 +1,109 @@
 -- A year end by its cases: the figures of lists that pass questions 4 and 6, and a refusal of the others.
 -- Assumes nothing.
-use mathlib.Core.Bool.{Bool, true, false}
+use mathlib.Core.Bool.{Bool, true, false, _&&_, and-false}
 use mathlib.Core.List.{List}
-use mathlib.Core.Path.{_≡_, sym, _∙_}
-use Prim.Native.Nat.{ℕ, min}
+use mathlib.Core.Path.{_≡_, refl, sym, _∙_}
+use Prim.Native.Nat.{ℕ, _≤_}
 use native.Mathlib.Omega.{arith}
-use lib.IntN.{ℤ}
+use borrow.Author.Tests.{le-leb}
+use lib.IntN.{ℤ, natAbs}
+use lib.ListN.{length}
 use mir.Syntax.{w64}
 use mir.Val.{toZ, ofZ}
+use Rattle.model.specs.Basics.{all}
 use Rattle.model.specs.Call.{closeYear}
+use Rattle.model.specs.Kind.{isAmount, isPaid}
 use Rattle.model.specs.Question.{hasLengths}
 use Rattle.model.specs.YearEnd.{loss}
+use Rattle.model.proofs.Lists.{true≢false}
+use Rattle.kinds.proofs.Within.{taken, left}
+use Rattle.money.specs.Closing.{isClosing, closingOf, closingNumber}
+use Rattle.money.specs.declared.closing.Closing.{Closing}
+use Rattle.money.specs.declared.closing.MaybeClosing.{MaybeClosing}
+use Rattle.money.specs.declared.closing.MaybeClosing.the-variants.{Within, Outside}
 use Rattle.money.proofs.Signed.{read-back}
-use Rattle.reserve.specs.Closing.{closingAt}
+use Rattle.money.proofs.Within.{closing-apart, closing-within, closing-outside}
+use Rattle.refusal.specs.Number.{refusalOf}
+use Rattle.refusal.specs.declared.Refusal.the-variants.{WrongCount, OutsideLimits}
+use Rattle.refusal.specs.declared.Verdict.the-variants.{Fine}
+use Rattle.reserve.specs.Closing.{areFactors, closingAt, closingIn}
 use Rattle.reserve.specs.Figures.{Figures}
 use Rattle.reserve.specs.Lists.{PaidList, ReserveLists, paidSum, statedRows}
 use Rattle.reserve.specs.YearEnd.{hasLimits, refused, yearEnd}
-use Rattle.reserve.specs.declared.year_end.Verdict.the-variants.{Fine, Length, Limits}
 use Rattle.reserve.specs.declared.year_end.YearEnd.{YearEnd}
-use Rattle.reserve.proofs.Lists.{paid-total-is, closing-is, paid-list, reserve-lists, figures}
+use Rattle.reserve.proofs.Conjunctions.{three}
+use Rattle.reserve.proofs.Lists.{paid-total-is, closing-is, reserve-lists, closing-small, paid-list, paid-small}
 use Rattle.reserve.proofs.Losses.{loss-small}
 
-module _ (letter : ℕ) (paid : List ℤ) (unpaid tabular factors : List ℕ) where
-  -- l is the answer to question 4, and m to question 6
-  module _ (l : Bool) (el : l ≡ hasLengths (closeYear letter 0 paid unpaid tabular)) where
-    pub length-refused : (opening : ℕ) (r : YearEnd) → l ≡ false → r ≡ refused Length → r ≡ yearEnd letter paid unpaid tabular factors opening
-    unfolding yearEnd
-    length-refused opening r lengths e = rw (← el, lengths) e
+module _ (letter : ℕ) (paid : List ℤ) (unpaid tabular factors : List ℕ) (opening : ℕ) (l : Bool) (el : l ≡ hasLengths (closeYear letter 0 paid unpaid tabular)) where
+  abbrev end : YearEnd
+  end = yearEnd letter paid unpaid tabular factors opening
 
-    module _ (lengths : l ≡ true) (m : Bool) (em : m ≡ hasLimits paid unpaid tabular) where
-      pub limits-refused : (opening : ℕ) (r : YearEnd) → m ≡ false → r ≡ refused Limits → r ≡ yearEnd letter paid unpaid tabular factors opening
-      unfolding yearEnd
-      limits-refused opening r limits e = rw (← el, lengths, ← em, limits) e
+  pub length-refused : l ≡ false → (r : YearEnd) → r ≡ refused WrongCount → r ≡ end
+  unfolding yearEnd refusalOf
+  length-refused n r e = rw (← el, n) e
 
-      module _ (limits : m ≡ true) where
-        pub asks-paid-list : PaidList paid
-        asks-paid-list = paid-list letter paid unpaid tabular (sym el ∙ lengths) (sym em ∙ limits)
+  -- m is whether the paid are within their limits, and o what the opening is
+  module _ (lengths : l ≡ true) (m : Bool) (em : m ≡ all isPaid paid) where
+    limits-refused : hasLimits paid unpaid tabular && areFactors unpaid factors && isClosing opening ≡ false → (r : YearEnd) → r ≡ refused OutsideLimits → r ≡ end
+    unfolding yearEnd refusalOf
+    limits-refused n r e = rw (← el, lengths, n) e
 
-        pub asks-reserve-lists : ReserveLists unpaid tabular
-        asks-reserve-lists = reserve-lists letter paid unpaid tabular (sym el ∙ lengths) (sym em ∙ limits)
+    pub paid-refused : m ≡ false → (r : YearEnd) → r ≡ refused OutsideLimits → r ≡ end
+    paid-refused n = limits-refused (rw (← em, n))
 
-        -- the code's payments p, reserve s, opening o (of the value n) and loss z, the signed ones read from their bits
-        module _ (p : ℤ) (ep : p ≡ paidSum paid) (s : ℕ) (es : s ≡ closingAt factors (statedRows unpaid tabular)) (n o : ℕ) (eo : o ≡ min n 110000000000) where
-          these : Figures p s o
-          these = rw (ep, es) (figures letter paid unpaid tabular (sym el ∙ lengths) (sym em ∙ limits) factors o (omega arith))
+    module _ (within : m ≡ true) (o : MaybeClosing) (eo : o ≡ closingOf opening) where
+      pub opening-refused : o ≡ Outside → (r : YearEnd) → r ≡ refused OutsideLimits → r ≡ end
+      opening-refused e = limits-refused (rw (closing-outside opening o eo e, and-false (hasLimits paid unpaid tabular && areFactors unpaid factors)))
 
-          read : toZ w64 (ofZ w64 p) ≡ p
-          read = read-back p (omega (arith, these .paidLimit))
+      pub asks-paid-list : PaidList paid
+      asks-paid-list = paid-list letter paid unpaid tabular (sym el ∙ lengths) (sym em ∙ within)
 
-          pub asks-figures : Figures (toZ w64 (ofZ w64 p)) s o
-          asks-figures = rw read these
+      pub asks-reserve-lists : length factors ≡ 11 → ReserveLists unpaid tabular factors
+      asks-reserve-lists = reserve-lists letter paid unpaid tabular (sym el ∙ lengths) factors
 
-          pub fine-is : (z : ℤ) → z ≡ loss (toZ w64 (ofZ w64 p)) s o →
-              _≡_ {A = YearEnd} (record { verdict = Fine; paid = toZ w64 (ofZ w64 p); closing = s; loss = toZ w64 (ofZ w64 z) }) (yearEnd letter paid unpaid tabular factors (min n 110000000000))
+      -- the code's payments p, and the numbers of two closings, are as large as the loss asks
+      module _ (p : ℤ) (ep : p ≡ paidSum paid) where
+        paid-figure : natAbs p ≤ 110000000000
+        paid-figure = rw ep (paid-small letter paid unpaid tabular (sym el ∙ lengths) (sym em ∙ within))
+
+        read : toZ w64 (ofZ w64 p) ≡ p
+        read = read-back p (omega (arith, paid-figure))
+
+        pub asks-figures : (s : ℕ) (x : Closing) → s ≡ closingNumber x → (n : ℕ) (y : Closing) → n ≡ closingNumber y → Figures (toZ w64 (ofZ w64 p)) s n
+        asks-figures s x es n y en = rw read record { paidLimit = paid-figure; closingLimit = omega arith; openingLimit = omega arith }
+
+      -- c is what the closing is
+      module _ (before : Closing) (eb : o ≡ Within before) (c : MaybeClosing) (ec : c ≡ closingIn unpaid tabular factors) where
+        abbrev rows : Bool
+        rows = all isAmount unpaid && all isAmount tabular && areFactors unpaid factors
+
+        abbrev amount : ℕ
+        amount = closingAt factors (statedRows unpaid tabular)
+
+        closing-is-small : rows ≡ true → isClosing amount ≡ true
+        closing-is-small t =
+            le-leb amount 110000000000
+            (closing-small letter paid unpaid tabular (sym el ∙ lengths) (three (all isAmount unpaid) (all isAmount tabular) (areFactors unpaid factors) t .0) factors)
+
+        rows-outside : c ≡ Outside → rows ≡ false
+        unfolding closingIn
+        rows-outside e = left Outside rows (closingOf amount) c ec (λ t z. true≢false (sym (closing-is-small t) ∙ closing-outside amount (closingOf amount) refl z)) e
+
+        pub closing-refused : c ≡ Outside → (r : YearEnd) → r ≡ refused OutsideLimits → r ≡ end
+        closing-refused e = limits-refused (rw (← em, within, rows-outside e))
+
+        -- the code's payments p, closing s, opening n and loss z, the signed ones read from their bits
+        module _ (after : Closing) (ea : c ≡ Within after) (p : ℤ) (ep : p ≡ paidSum paid) (s : ℕ) (es : s ≡ closingNumber after) (n : ℕ) (en : n ≡ closingNumber before) where
+          found : (rows ≡ true) × (c ≡ closingOf amount)
+          unfolding closingIn
+          found = taken Outside rows (closingOf amount) c ec (Within after) (closing-apart after) ea
+
+          pub fine-is : (z : ℤ) → z ≡ loss (toZ w64 (ofZ w64 p)) s n → _≡_ {A = YearEnd} (record { verdict = Fine; paid = toZ w64 (ofZ w64 p); closing = s; loss = toZ w64 (ofZ w64 z) }) end
           unfolding yearEnd
           fine-is z ez =
+              let opened = closing-within opening o eo before eb in
               let total = paid-total-is letter paid unpaid tabular (sym el ∙ lengths) ∙ sym ep in
-              let sum = closing-is letter paid unpaid tabular (sym el ∙ lengths) factors ∙ sym es in
-              let back = read-back (loss p s o) (loss-small p s o these) in
-              rw (← el, lengths, ← em, limits, total, sum, ← eo, ez, read, back)
+              let sum = closing-is letter paid unpaid tabular (sym el ∙ lengths) factors ∙ sym (es ∙ closing-within amount c (found .1) after ea .1) in
+              let small = loss-small p s n (rw (read p ep) at (asks-figures p ep s after es n before en)) in
+              rw (← el, lengths, ← em, within, found .0, opened .0, total, sum, ← (en ∙ opened .1), ez, read p ep, read-back (loss p s n) small)

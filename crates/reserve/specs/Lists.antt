@@ -1,4 +1,4 @@
--- The lists of a YEAR that have their length and their limits, as the helpers of a year end ask for them.
+-- The lists of a YEAR, as the helpers of a year end ask for them.
 -- Assumes nothing: these are definitions.
 use mathlib.Core.Bool.{true}
 use mathlib.Core.List.{List, [], _∷_}
@@ -7,18 +7,17 @@ use Prim.Native.Nat.{ℕ, _≤_}
 use lib.ListN.{length}
 use lib.IntN.{ℤ}
 use Rattle.model.specs.Basics.{all, total}
-use Rattle.model.specs.Kind.{isAmount, isPaid}
+use Rattle.model.specs.Kind.{isPaid}
 use Rattle.model.specs.Row.{Row, stated}
 
 pub record PaidList (paid : List ℤ) : Type 0 where
   pub few : length paid ≤ 11
   pub limits : all isPaid paid ≡ true
 
-pub record ReserveLists (unpaid tabular : List ℕ) : Type 0 where
+pub record ReserveLists (unpaid tabular factors : List ℕ) : Type 0 where
   pub few : length unpaid ≤ 11
   pub same : length tabular ≡ length unpaid
-  pub unpaidLimits : all isAmount unpaid ≡ true
-  pub tabularLimits : all isAmount tabular ≡ true
+  pub enough : length unpaid ≤ length factors
 
 abbrev pub paidSum : List ℤ → ℤ
 paidSum paid = total (λ v. v) paid

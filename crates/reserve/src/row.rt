@@ -4,8 +4,9 @@ use kinds::factor::Factor;
 use money::amount::Amount;
 ghost use mathlib.Core.Path.{_≡_};
 ghost use Prim.Native.Nat.{_+_};
+ghost use lib.Dec.{ltb};
 ghost use Rattle.model.specs.Published.{published};
-ghost use Rattle.model.specs.Row.{discounted, stated};
+ghost use Rattle.model.specs.Row.{gross, discounted, stated};
 ghost use Rattle.money.specs.Amount.{amountNumber};
 ghost use Rattle.kinds.specs.Factor.{factorNumber};
 
@@ -14,6 +15,13 @@ pub fn gross(unpaid: Amount, tabular: Amount) -> u64
     ensures { λ r. ⌜ r ≡ amountNumber unpaid + amountNumber tabular ⌝ }
 {
     unpaid.number() + tabular.number()
+}
+
+// "gross above 0": one of the two numbers is.
+pub fn has_gross(unpaid: u64, tabular: u64) -> bool
+    ensures { λ r. ⌜ r ≡ ltb 0 (gross (stated unpaid tabular)) ⌝ }
+{
+    unpaid > 0 || tabular > 0
 }
 
 // "Discounted is the smaller of unpaid and (gross × published + 500,000) / 1,000,000 rounded down."

@@ -3,19 +3,15 @@ use crate::closing::closing;
 use crate::loss::loss;
 use crate::paid_total::paid_total;
 use crate::questions::has_lengths;
-use crate::questions::has_limits;
 use money::closing::Closing;
+use money::closing::MaybeClosing;
+use money::paid::Paid;
+use refusal::Refusal;
+use refusal::Verdict;
 ghost use mathlib.Core.Path.{_≡_};
-ghost use Rattle.money.specs.Closing.{closingNumber};
 ghost use Rattle.reserve.specs.YearEnd.{yearEnd, refused};
 
-// Whether the lists are those of a year; if not, which question is answered no: 4 (Length) or 6 (Limits).
-pub enum Verdict {
-    Fine,
-    Length,
-    Limits,
-}
-
+// Whether the numbers are those of a year, and its figures; zeros, if not.
 pub struct YearEnd {
     pub verdict: Verdict,
     pub paid: i64,
@@ -30,34 +26,39 @@ pub fn year_end(
     unpaid: &[u64],
     tabular: &[u64],
     factors: &[u64; 11],
-    opening: Closing,
+    opening: u64,
 ) -> YearEnd
-    ensures { λ r. ⌜ r ≡ yearEnd letter (now (paid .entry)) (now (unpaid .entry)) (now (tabular .entry)) (now (factors .entry)) (closingNumber opening) ⌝ }
+    ensures { λ r. ⌜ r ≡ yearEnd letter (now (paid .entry)) (now (unpaid .entry)) (now (tabular .entry)) (now (factors .entry)) opening ⌝ }
 {
     if has_lengths(letter, paid, unpaid, tabular) {
-        if has_limits(paid, unpaid, tabular) {
+        if Paid::all(paid) {
+            let MaybeClosing::Within(before) = Closing::new(opening) else {
+                return refused(Refusal::OutsideLimits);
+            };
+            let MaybeClosing::Within(after) = closing(unpaid, tabular, factors) else {
+                return refused(Refusal::OutsideLimits);
+            };
             let payments = paid_total(paid);
-            let reserve = closing(unpaid, tabular, factors);
-            YearEnd {
+            let closed = after.number();
+            let opened = before.number();
+            return YearEnd {
                 verdict: Verdict::Fine,
                 paid: payments,
-                closing: reserve,
-                loss: loss(payments, reserve, opening.number()),
-            }
-        } else {
-            refused(Verdict::Limits)
+                closing: closed,
+                loss: loss(payments, closed, opened),
+            };
         }
-    } else {
-        refused(Verdict::Length)
+        return refused(Refusal::OutsideLimits);
     }
+    refused(Refusal::WrongCount)
 }
 
 // A year end with no figures.
-fn refused(verdict: Verdict) -> YearEnd
-    ensures { λ r. ⌜ r ≡ refused verdict ⌝ }
+fn refused(refusal: Refusal) -> YearEnd
+    ensures { λ r. ⌜ r ≡ refused refusal ⌝ }
 {
     YearEnd {
-        verdict,
+        verdict: Verdict::Refused(refusal),
         paid: 0,
         closing: 0,
         loss: 0,

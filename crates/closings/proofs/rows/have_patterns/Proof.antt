@@ -21,20 +21,20 @@ kept-count-requires c κs = search needs
 loop-holds : tie.Need-loop-holds Inv-loop μ-loop
 loop-holds c = search ask-start
 
-mul-if1 : tie.Need-mul-if1 Inv-loop μ-loop
-mul-if1 c = search needs
+mul-has-gross : tie.Need-mul-has-gross Inv-loop μ-loop
+mul-has-gross c = search needs
 
-shared-slice-read-if1 : tie.Need-shared-slice-read-if1 Inv-loop μ-loop
-shared-slice-read-if1 c = omega arith
+shared-slice-read-has-gross : tie.Need-shared-slice-read-has-gross Inv-loop μ-loop
+shared-slice-read-has-gross c = omega arith
 
-mul-if1-2 : tie.Need-mul-if1-2 Inv-loop μ-loop
-mul-if1-2 c = search needs
+mul-has-gross-2 : tie.Need-mul-has-gross-2 Inv-loop μ-loop
+mul-has-gross-2 c = search needs
 
-shared-slice-read-if1-2 : tie.Need-shared-slice-read-if1-2 Inv-loop μ-loop
-shared-slice-read-if1-2 c = omega arith
+shared-slice-read-has-gross-2 : tie.Need-shared-slice-read-has-gross-2 Inv-loop μ-loop
+shared-slice-read-has-gross-2 c = omega arith
 
-gross-requires : tie.Need-gross-requires Inv-loop μ-loop
-gross-requires c κs = search needs
+has-gross-requires : tie.Need-has-gross-requires Inv-loop μ-loop
+has-gross-requires c κs = search needs
 
 returns : tie.Need-returns Inv-loop μ-loop
 returns c = search ask-stop
@@ -46,9 +46,7 @@ loop-less : tie.Need-loop-less Inv-loop μ-loop
 loop-less c = omega arith
 
 loop-again : tie.Need-loop-again Inv-loop μ-loop
-loop-again c =
-    let turn = c .before .before .before .before in
-    ask-on _ _ _ _ _ (turn .before .loop .inv) _ (turn .loop-test .taken) (c .before .gross .ensures) (c .if1 .left)
+loop-again c = search ask-on
 
 returns-2 : tie.Need-returns-2 Inv-loop μ-loop
 returns-2 c = search ask-end
@@ -62,11 +60,11 @@ have-patterns-spec =
     ages-requires
     kept-count-requires
     loop-holds
-    mul-if1
-    shared-slice-read-if1
-    mul-if1-2
-    shared-slice-read-if1-2
-    gross-requires
+    mul-has-gross
+    shared-slice-read-has-gross
+    mul-has-gross-2
+    shared-slice-read-has-gross-2
+    has-gross-requires
     returns
     add-k
     loop-less

@@ -3,39 +3,51 @@ use Prim.Native.Nat.{_-_}
 use native.Mathlib.Omega.{arith}
 use borrow.Author.Needs.{needs}
 use lib.ListN.{length}
-use Rattle.reserve.proofs.ClosingSum.{Summed, start, inside-tabular, inside-factors, fits, on, end}
+use Rattle.reserve.proofs.ClosingSum.{Summed, start, fits, on, stop, end}
 use Rattle.reserve.proofs.closing.closing.Statement.{statement}
 use Rattle.reserve.proofs.closing.closing.Tie as tie
 
 abbrev Inv-loop : tie.InvT-loop
-Inv-loop unpaid tabular factors sum₀ k₀ sum k = Summed factors unpaid tabular sum k
+Inv-loop unpaid tabular factors sum₀ k₀ sum k = Summed unpaid tabular factors sum k
 
 abbrev μ-loop : tie.MeasureT-loop
 μ-loop unpaid tabular factors sum₀ k₀ sum k = length unpaid - k
 
 loop-holds : tie.Need-loop-holds Inv-loop μ-loop
-loop-holds c = start _ _ _
+loop-holds c = search start
 
-mul-sum : tie.Need-mul-sum Inv-loop μ-loop
-mul-sum c = search needs
+mul-discounted-row : tie.Need-mul-discounted-row Inv-loop μ-loop
+mul-discounted-row c = search needs
 
-shared-slice-read-sum : tie.Need-shared-slice-read-sum Inv-loop μ-loop
-shared-slice-read-sum c = omega arith
+shared-slice-read-discounted-row : tie.Need-shared-slice-read-discounted-row Inv-loop μ-loop
+shared-slice-read-discounted-row c = omega arith
 
-mul-sum-2 : tie.Need-mul-sum-2 Inv-loop μ-loop
-mul-sum-2 c = search needs
+mul-discounted-row-2 : tie.Need-mul-discounted-row-2 Inv-loop μ-loop
+mul-discounted-row-2 c = search needs
 
-shared-slice-read-sum-2 : tie.Need-shared-slice-read-sum-2 Inv-loop μ-loop
-shared-slice-read-sum-2 c = search inside-tabular
+shared-slice-read-discounted-row-2 : tie.Need-shared-slice-read-discounted-row-2 Inv-loop μ-loop
+shared-slice-read-discounted-row-2 c = omega arith
 
-mul-sum-3 : tie.Need-mul-sum-3 Inv-loop μ-loop
-mul-sum-3 c = search needs
+mul-discounted-row-3 : tie.Need-mul-discounted-row-3 Inv-loop μ-loop
+mul-discounted-row-3 c = search needs
 
-element-copy-out-sum : tie.Need-element-copy-out-sum Inv-loop μ-loop
-element-copy-out-sum c = search inside-factors
+shared-slice-read-discounted-row-3 : tie.Need-shared-slice-read-discounted-row-3 Inv-loop μ-loop
+shared-slice-read-discounted-row-3 c = omega arith
 
-discounted-requires : tie.Need-discounted-requires Inv-loop μ-loop
-discounted-requires c κs = search needs
+discounted-row-requires : tie.Need-discounted-row-requires Inv-loop μ-loop
+discounted-row-requires c κs = search needs
+
+enum-known-row : tie.Need-enum-known-row Inv-loop μ-loop
+enum-known-row c = search needs
+
+enum-told : tie.Need-enum-told Inv-loop μ-loop
+enum-told c = search needs
+
+returns : tie.Need-returns Inv-loop μ-loop
+returns c = search stop
+
+number-requires : tie.Need-number-requires Inv-loop μ-loop
+number-requires c κs = search needs
 
 add-sum : tie.Need-add-sum Inv-loop μ-loop
 add-sum c = search fits
@@ -49,8 +61,11 @@ loop-less c = omega arith
 loop-again : tie.Need-loop-again Inv-loop μ-loop
 loop-again c = search on
 
-returns : tie.Need-returns Inv-loop μ-loop
-returns c = search end
+new-requires : tie.Need-new-requires Inv-loop μ-loop
+new-requires c κs = search needs
+
+returns-2 : tie.Need-returns-2 Inv-loop μ-loop
+returns-2 c = search end
 
 pub closing-spec : {M : Type 1} → statement M
 closing-spec =
@@ -59,15 +74,20 @@ closing-spec =
     Inv-loop
     μ-loop
     loop-holds
-    mul-sum
-    shared-slice-read-sum
-    mul-sum-2
-    shared-slice-read-sum-2
-    mul-sum-3
-    element-copy-out-sum
-    discounted-requires
+    mul-discounted-row
+    shared-slice-read-discounted-row
+    mul-discounted-row-2
+    shared-slice-read-discounted-row-2
+    mul-discounted-row-3
+    shared-slice-read-discounted-row-3
+    discounted-row-requires
+    enum-known-row
+    enum-told
+    returns
+    number-requires
     add-sum
     add-k
     loop-less
     loop-again
-    returns)
+    new-requires
+    returns-2)

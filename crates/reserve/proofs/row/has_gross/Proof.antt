@@ -1,0 +1,13 @@
+-- `reserve::row::has_gross` meets its contract. Assumes nothing.
+use Rattle.reserve.proofs.Values.{unpaid-above, nothing-unpaid}
+use Rattle.reserve.proofs.row.has_gross.Statement.{statement}
+use Rattle.reserve.proofs.row.has_gross.Tie as tie
+
+returns : tie.Need-returns
+returns c = search unpaid-above
+
+returns-2 : tie.Need-returns-2
+returns-2 c = search nothing-unpaid
+
+pub has-gross-spec : {M : Type 1} → statement M
+has-gross-spec = tie.close (tie.spec returns returns-2)
