@@ -25,7 +25,7 @@ discountedRows factors k (row ∷ rows) = discounted row (published (getD factor
 abbrev pub closingAt : List ℕ → List Row → ℕ
 closingAt factors rows = sum (discountedRows factors 0 rows)
 
--- "6. Is every number within its limits?": the factors of the rows, at most as many as there are
+-- "6. Is every number within its limits?", of the kept factors: those of the rows, and no others
 abbrev pub areFactors : List ℕ → List ℕ → Bool
 areFactors unpaid factors = all isFactor (take (length unpaid) factors)
 

@@ -11,7 +11,7 @@ use refusal::Verdict;
 ghost use mathlib.Core.Path.{_≡_};
 ghost use Rattle.reserve.specs.YearEnd.{yearEnd, refused};
 
-// Whether the numbers are those of a year, and its figures; zeros, if not.
+// A year end: its verdict, and its figures, which are zeros beside a refusal.
 pub struct YearEnd {
     pub verdict: Verdict,
     pub paid: i64,
