@@ -3,7 +3,7 @@ ghost use mathlib.Core.Path.{_≡_};
 ghost use Rattle.kinds.specs.Factor.{factorOf, factorNumber};
 
 pub struct Factor {
-    pub value: u64,
+    value: u64,
 }
 
 pub enum MaybeFactor {

@@ -5,7 +5,7 @@ ghost use Rattle.model.specs.Kind.{isRate};
 ghost use Rattle.kinds.specs.Rate.{rateOf, rateNumber};
 
 pub struct Rate {
-    pub value: u64,
+    value: u64,
 }
 
 pub enum MaybeRate {

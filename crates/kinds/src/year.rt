@@ -4,7 +4,7 @@ ghost use Rattle.model.specs.Kind.{isYear};
 ghost use Rattle.kinds.specs.Year.{yearOf, yearNumber};
 
 pub struct Year {
-    pub value: u64,
+    value: u64,
 }
 
 pub enum MaybeYear {

@@ -5,7 +5,7 @@ ghost use Rattle.model.specs.Kind.{isAmount};
 ghost use Rattle.money.specs.Amount.{amountOf, amountNumber};
 
 pub struct Amount {
-    pub value: u64,
+    value: u64,
 }
 
 pub enum MaybeAmount {

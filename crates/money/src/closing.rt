@@ -3,7 +3,7 @@ ghost use mathlib.Core.Path.{_≡_};
 ghost use Rattle.money.specs.Closing.{closingOf, closingNumber};
 
 pub struct Closing {
-    pub value: u64,
+    value: u64,
 }
 
 pub enum MaybeClosing {

@@ -4,7 +4,7 @@ ghost use Rattle.model.specs.Kind.{isOpening};
 ghost use Rattle.money.specs.Opening.{openingOf, openingNumber};
 
 pub struct Opening {
-    pub value: u64,
+    value: u64,
 }
 
 pub enum MaybeOpening {

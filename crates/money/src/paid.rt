@@ -5,7 +5,7 @@ ghost use Rattle.model.specs.Kind.{isPaid};
 ghost use Rattle.money.specs.Paid.{paidOf};
 
 pub struct Paid {
-    pub value: i64,
+    value: i64,
 }
 
 pub enum MaybePaid {
