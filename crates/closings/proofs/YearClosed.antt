@@ -21,7 +21,7 @@ use Rattle.reserve.specs.YearEnd.{hasLimits, yearEnd}
 use Rattle.reserve.specs.declared.year_end.YearEnd.{YearEnd}
 use Rattle.refusal.specs.declared.Verdict.the-variants.{Fine}
 use Rattle.reserve.proofs.Closings.{RowFactors, closing-of-line}
-use Rattle.reserve.proofs.Lists.{rows-count}
+use Rattle.model.proofs.YearRows.{rows-count}
 use Rattle.reserve.proofs.Verdicts.{limits-of-year, closing-limit, year-end-of-line}
 use Rattle.state.specs.declared.book.Book.{Book}
 use Rattle.state.specs.declared.book.Line.{Line}
@@ -88,7 +88,7 @@ module _ (book : Book) (line : Line) (letter year : ℕ) (paid : List ℤ) (unpa
 
     amount-small : amount ≤ 110000000000
     amount-small =
-        rw (← (closing-of-line letter shown year factors rows (rw (rows-count letter paid unpaid tabular (pre .turned .sound .lengths)) row-factors)))
+        rw (← (closing-of-line letter shown year factors rows (rw (rows-count letter year paid unpaid tabular (pre .turned .sound .lengths)) row-factors)))
         (closing-limit letter paid unpaid tabular (pre .turned .sound .lengths) has-limits factors)
 
     end-is : yearEnd letter paid unpaid tabular factors (openingOf line) ≡ record { verdict = Fine; paid = paidTotal rows; closing = amount; loss = loss (paidTotal rows) amount (openingOf line) }

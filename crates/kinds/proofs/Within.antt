@@ -6,21 +6,19 @@ use Prim.Native.Nat.{ℕ}
 use native.Mathlib.Omega.{arith}
 use borrow.Author.Tests.{leb-true}
 use Rattle.model.specs.Basics.{if_then_else_}
-use Rattle.model.specs.Kind.{isRate}
+use Rattle.model.specs.Kind.{isRate, isYear}
 use Rattle.kinds.specs.Factor.{isFactor, factorOf, factorNumber}
 use Rattle.kinds.specs.Rate.{rateOf, rateNumber}
+use Rattle.kinds.specs.Year.{yearOf}
 use Rattle.kinds.specs.declared.factor.Factor.{Factor}
 use Rattle.kinds.specs.declared.factor.MaybeFactor.{MaybeFactor}
 use Rattle.kinds.specs.declared.factor.MaybeFactor.the-variants as factor
 use Rattle.kinds.specs.declared.rate.Rate.{Rate}
 use Rattle.kinds.specs.declared.rate.MaybeRate.{MaybeRate}
 use Rattle.kinds.specs.declared.rate.MaybeRate.the-variants as rate
-
--- `told` tells the variant `within` from `outside`
-module _ {A : Type 0} (told : A → Bool) (within outside : A) (yes : told within ≡ true) (no : told outside ≡ false) where
-  pub told-by : (p : Bool) (x : A) → x ≡ (if p then within else outside) → told x ≡ p
-  told-by true x e = rw e yes
-  told-by false x e = rw e no
+use Rattle.kinds.specs.declared.year.Year.{Year}
+use Rattle.kinds.specs.declared.year.MaybeYear.{MaybeYear}
+use Rattle.kinds.specs.declared.year.MaybeYear.the-variants as year
 
 -- x is m where the test p holds, and `outside` where it does not
 module _ {M : Type 0} (outside : M) where
@@ -44,6 +42,16 @@ module _ (n : ℕ) (x : MaybeRate) (ex : x ≡ rateOf n) where
 
   pub rate-outside : x ≡ rate.Outside → isRate n ≡ false
   rate-outside e = left rate.Outside (isRate n) (rate.Within (record { value = n })) x ex (λ t. rate-apart (record { value = n })) e
+
+year-apart : (v : Year) → year.Within v ≡ year.Outside → ⊥
+year-apart v e = let z : _≡_ {A = ℕ} 0 1 = cc in omega arith
+
+module _ (n : ℕ) (x : MaybeYear) (ex : x ≡ yearOf n) where
+  pub year-within : (v : Year) → x ≡ year.Within v → isYear n ≡ true
+  year-within v e = taken year.Outside (isYear n) (year.Within (record { value = n })) x ex (year.Within v) (year-apart v) e .0
+
+  pub year-outside : x ≡ year.Outside → isYear n ≡ false
+  year-outside e = left year.Outside (isYear n) (year.Within (record { value = n })) x ex (λ t. year-apart (record { value = n })) e
 
 factor-apart : (v : Factor) → factor.Within v ≡ factor.Outside → ⊥
 factor-apart v e = let z : _≡_ {A = ℕ} 0 1 = cc in omega arith

@@ -5,11 +5,13 @@ use mathlib.Core.Path.{_≡_}
 use Prim.Native.Nat.{ℕ}
 use native.Mathlib.Omega.{arith}
 use borrow.Author.Tests.{leb-true}
-use Rattle.model.specs.Kind.{isAmount, isOpening}
+use lib.IntN.{ℤ}
+use Rattle.model.specs.Kind.{isAmount, isOpening, isPaid}
 use Rattle.kinds.proofs.Within.{taken, left}
 use Rattle.money.specs.Amount.{amountOf, amountNumber}
 use Rattle.money.specs.Closing.{isClosing, closingOf, closingNumber}
 use Rattle.money.specs.Opening.{openingOf, openingNumber}
+use Rattle.money.specs.Paid.{paidOf}
 use Rattle.money.specs.declared.amount.Amount.{Amount}
 use Rattle.money.specs.declared.amount.MaybeAmount.{MaybeAmount}
 use Rattle.money.specs.declared.amount.MaybeAmount.the-variants as amount
@@ -19,6 +21,9 @@ use Rattle.money.specs.declared.closing.MaybeClosing.the-variants as clo
 use Rattle.money.specs.declared.opening.Opening.{Opening}
 use Rattle.money.specs.declared.opening.MaybeOpening.{MaybeOpening}
 use Rattle.money.specs.declared.opening.MaybeOpening.the-variants as opening
+use Rattle.money.specs.declared.paid.Paid.{Paid}
+use Rattle.money.specs.declared.paid.MaybePaid.{MaybePaid}
+use Rattle.money.specs.declared.paid.MaybePaid.the-variants as paid
 
 pub amount-apart : (v : Amount) → amount.Within v ≡ amount.Outside → ⊥
 amount-apart v e = let z : _≡_ {A = ℕ} 0 1 = cc in omega arith
@@ -58,3 +63,13 @@ module _ (n : ℕ) (x : MaybeClosing) (ex : x ≡ closingOf n) where
 
   pub closing-outside : x ≡ closing.Outside → isClosing n ≡ false
   closing-outside e = left closing.Outside (isClosing n) (closing.Within (record { value = n })) x ex (λ t. closing-apart (record { value = n })) e
+
+paid-apart : (v : Paid) → paid.Within v ≡ paid.Outside → ⊥
+paid-apart v e = let z : _≡_ {A = ℕ} 0 1 = cc in omega arith
+
+module _ (n : ℤ) (x : MaybePaid) (ex : x ≡ paidOf n) where
+  pub paid-within : (v : Paid) → x ≡ paid.Within v → isPaid n ≡ true
+  paid-within v e = taken paid.Outside (isPaid n) (paid.Within (record { value = n })) x ex (paid.Within v) (paid-apart v) e .0
+
+  pub paid-outside : x ≡ paid.Outside → isPaid n ≡ false
+  paid-outside e = left paid.Outside (isPaid n) (paid.Within (record { value = n })) x ex (λ t. paid-apart (record { value = n })) e

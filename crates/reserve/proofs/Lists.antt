@@ -5,24 +5,22 @@ use mathlib.Core.List.{List, [], _∷_}
 use mathlib.Core.Path.{_≡_, refl, ap}
 use Prim.Native.Nat.{ℕ, suc, _*_, _≤_}
 use native.Mathlib.Omega.{arith}
-use borrow.Author.Tests.{eqb-true, leb-true}
-use lib.Dec.{eqb}
+use borrow.Author.Tests.{leb-true}
 use lib.ListN.{length, getD}
 use lib.IntN.{ℤ, natAbs}
-use Rattle.model.specs.Basics.{all, sum, total}
+use Rattle.model.specs.Basics.{all, sum}
 use Rattle.model.specs.Call.{closeYear}
 use Rattle.model.specs.Kind.{isAmount, isPaid}
 use Rattle.model.specs.Letter.{ages}
 use Rattle.model.specs.Published.{published}
 use Rattle.model.specs.Question.{hasLengths}
 use Rattle.model.specs.Row.{rowsOf, discounted, stated}
-use Rattle.model.specs.YearEnd.{paidTotal}
 use Rattle.model.proofs.Lists.{and-left, and-right}
 use Rattle.model.proofs.Ages.{ages-small}
+use Rattle.model.proofs.YearRows.{length-is}
 use Rattle.money.proofs.Signed.{sum-size}
 use Rattle.reserve.specs.Closing.{discountedRows, closingAt}
 use Rattle.reserve.specs.Lists.{PaidList, ReserveLists, paidSum, statedRows}
-use Rattle.reserve.proofs.Conjunctions.{three}
 use Rattle.reserve.proofs.Values.{at-most-unpaid}
 
 -- ten thousand million for each row
@@ -48,12 +46,6 @@ closing-size factors k (u ∷ unpaid) (t ∷ tabular) e =
     )
 
 -- the same rows, but for what was paid
-paid-of-rows : (paid : List ℤ) (unpaid tabular : List ℕ) → length unpaid ≡ length paid → length tabular ≡ length paid → total (λ row. row .paid) (rowsOf paid unpaid tabular) ≡ paidSum paid
-paid-of-rows [] unpaid tabular eu et = refl
-paid-of-rows (v ∷ paid) [] tabular eu et = absurd (omega arith)
-paid-of-rows (v ∷ paid) (u ∷ unpaid) [] eu et = absurd (omega arith)
-paid-of-rows (v ∷ paid) (u ∷ unpaid) (t ∷ tabular) eu et = rw (paid-of-rows paid unpaid tabular (omega arith) (omega arith))
-
 discounted-of-rows : (factors : List ℕ) (k : ℕ) (paid : List ℤ) (unpaid tabular : List ℕ) → length unpaid ≡ length paid
     → discountedRows factors k (rowsOf paid unpaid tabular) ≡ discountedRows factors k (statedRows unpaid tabular)
 unfolding discounted
@@ -63,46 +55,27 @@ discounted-of-rows factors k (v ∷ paid) [] tabular e = absurd (omega arith)
 discounted-of-rows factors k (v ∷ paid) (u ∷ unpaid) [] e = refl
 discounted-of-rows factors k (v ∷ paid) (u ∷ unpaid) (t ∷ tabular) e = rw (discounted-of-rows factors (suc k) paid unpaid tabular (omega arith))
 
-count-of-rows : (paid : List ℤ) (unpaid tabular : List ℕ) → length unpaid ≡ length paid → length tabular ≡ length paid → length (rowsOf paid unpaid tabular) ≡ length paid
-count-of-rows [] unpaid tabular eu et = refl
-count-of-rows (v ∷ paid) [] tabular eu et = absurd (omega arith)
-count-of-rows (v ∷ paid) (u ∷ unpaid) [] eu et = absurd (omega arith)
-count-of-rows (v ∷ paid) (u ∷ unpaid) (t ∷ tabular) eu et = ap suc (count-of-rows paid unpaid tabular (omega arith) (omega arith))
-
 module _ (letter : ℕ) (paid : List ℤ) (unpaid tabular : List ℕ) (lengths : hasLengths (closeYear letter 0 paid unpaid tabular) ≡ true) where
-  length-is : (length paid ≡ suc (ages letter)) × (length unpaid ≡ suc (ages letter)) × (length tabular ≡ suc (ages letter))
-  length-is =
-      let n = suc (ages letter) in
-      let t = three (eqb (length paid) n) (eqb (length unpaid) n) (eqb (length tabular) n) lengths in
-      (eqb-true (length paid) n (t .0), eqb-true (length unpaid) n (t .1), eqb-true (length tabular) n (t .2))
-
-  pub unpaid-count : length unpaid ≡ suc (ages letter)
-  unpaid-count = length-is .1
-
-  pub rows-count : length (rowsOf paid unpaid tabular) ≡ suc (ages letter)
-  rows-count = omega (arith, length-is, count-of-rows paid unpaid tabular (omega (arith, length-is)) (omega (arith, length-is)))
-
-  pub paid-total-is : paidTotal (rowsOf paid unpaid tabular) ≡ paidSum paid
-  unfolding paidTotal
-  paid-total-is = paid-of-rows paid unpaid tabular (omega (arith, length-is)) (omega (arith, length-is))
+  lengths-are : (length paid ≡ suc (ages letter)) × (length unpaid ≡ suc (ages letter)) × (length tabular ≡ suc (ages letter))
+  lengths-are = length-is letter 0 paid unpaid tabular lengths
 
   pub closing-is : (factors : List ℕ) → closingAt factors (rowsOf paid unpaid tabular) ≡ closingAt factors (statedRows unpaid tabular)
-  closing-is factors = ap sum (discounted-of-rows factors 0 paid unpaid tabular (omega (arith, length-is)))
+  closing-is factors = ap sum (discounted-of-rows factors 0 paid unpaid tabular (omega (arith, lengths-are)))
 
   pub reserve-lists : (factors : List ℕ) → length factors ≡ 11 → ReserveLists unpaid tabular factors
   reserve-lists factors e =
       record {
-        few = omega (arith, length-is, ages-small letter);
-        same = omega (arith, length-is);
-        enough = omega (arith, length-is, ages-small letter);
+        few = omega (arith, lengths-are, ages-small letter);
+        same = omega (arith, lengths-are);
+        enough = omega (arith, lengths-are, ages-small letter);
       }
 
   pub closing-small : all isAmount unpaid ≡ true → (factors : List ℕ) → closingAt factors (statedRows unpaid tabular) ≤ 110000000000
-  closing-small limits factors = omega (arith, closing-size factors 0 unpaid tabular limits, length-is, ages-small letter)
+  closing-small limits factors = omega (arith, closing-size factors 0 unpaid tabular limits, lengths-are, ages-small letter)
 
   module _ (limits : all isPaid paid ≡ true) where
     pub paid-list : PaidList paid
-    paid-list = record { few = omega (arith, length-is, ages-small letter); limits = limits }
+    paid-list = record { few = omega (arith, lengths-are, ages-small letter); limits = limits }
 
     pub paid-small : natAbs (paidSum paid) ≤ 110000000000
-    paid-small = omega (arith, paid-size paid limits, length-is, ages-small letter)
+    paid-small = omega (arith, paid-size paid limits, lengths-are, ages-small letter)

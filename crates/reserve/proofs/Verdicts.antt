@@ -14,12 +14,13 @@ use Rattle.model.specs.Letter.{ages}
 use Rattle.model.specs.Question.{hasLengths, isWithinLimits}
 use Rattle.model.specs.Row.{rowsOf}
 use Rattle.model.specs.YearEnd.{paidTotal, closing, loss}
+use Rattle.model.proofs.YearRows.{length-is, rows-count}
 use Rattle.reserve.specs.Closing.{closingAt}
 use Rattle.reserve.specs.YearEnd.{hasLimits, yearEnd}
 use Rattle.refusal.specs.declared.Verdict.the-variants.{Fine}
 use Rattle.reserve.proofs.Closings.{RowFactors, closing-of-line, factors-within}
 use Rattle.reserve.proofs.Conjunctions.{three}
-use Rattle.reserve.proofs.Lists.{unpaid-count, rows-count, closing-is, closing-small}
+use Rattle.reserve.proofs.Lists.{closing-is, closing-small}
 
 regroup : (y a b c : Bool) → (y && a && b && c) ≡ (y && (a && b && c))
 regroup true a b c = refl
@@ -46,8 +47,8 @@ module _ (letter : ℕ) (paid : List ℤ) (unpaid tabular : List ℕ) where
         rw (
           lengths,
           limits,
-          unpaid-count letter paid unpaid tabular lengths,
+          length-is letter 0 paid unpaid tabular lengths .1,
           factors-within letter line year factors (suc (ages letter)) f,
           le-leb opening 110000000000 le,
-          closing-of-line letter line year factors (rowsOf paid unpaid tabular) (rw (rows-count letter paid unpaid tabular lengths) f),
+          closing-of-line letter line year factors (rowsOf paid unpaid tabular) (rw (rows-count letter 0 paid unpaid tabular lengths) f),
         )

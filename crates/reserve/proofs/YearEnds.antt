@@ -16,6 +16,7 @@ use Rattle.model.specs.Kind.{isAmount, isPaid}
 use Rattle.model.specs.Question.{hasLengths}
 use Rattle.model.specs.YearEnd.{loss}
 use Rattle.model.proofs.Lists.{true≢false}
+use Rattle.model.proofs.YearRows.{paid-total-is}
 use Rattle.kinds.proofs.Within.{taken, left}
 use Rattle.money.specs.Closing.{isClosing, closingOf, closingNumber}
 use Rattle.money.specs.declared.closing.Closing.{Closing}
@@ -32,7 +33,7 @@ use Rattle.reserve.specs.Lists.{PaidList, ReserveLists, paidSum, statedR
 use Rattle.reserve.specs.YearEnd.{hasLimits, refused, yearEnd}
 use Rattle.reserve.specs.declared.year_end.YearEnd.{YearEnd}
 use Rattle.reserve.proofs.Conjunctions.{three}
-use Rattle.reserve.proofs.Lists.{paid-total-is, closing-is, reserve-lists, closing-small, paid-list, paid-small}
+use Rattle.reserve.proofs.Lists.{closing-is, reserve-lists, closing-small, paid-list, paid-small}
 use Rattle.reserve.proofs.Losses.{loss-small}
 
 module _ (letter : ℕ) (paid : List ℤ) (unpaid tabular factors : List ℕ) (opening : ℕ) (l : Bool) (el : l ≡ hasLengths (closeYear letter 0 paid unpaid tabular)) where
@@ -103,7 +104,7 @@ module _ (letter : ℕ) (paid : List ℤ) (unpaid tabular factors : List ℕ) (o
           unfolding yearEnd
           fine-is z ez =
               let opened = closing-within opening o eo before eb in
-              let total = paid-total-is letter paid unpaid tabular (sym el ∙ lengths) ∙ sym ep in
+              let total = paid-total-is letter 0 paid unpaid tabular (sym el ∙ lengths) ∙ sym ep in
               let sum = closing-is letter paid unpaid tabular (sym el ∙ lengths) factors ∙ sym (es ∙ closing-within amount c (found .1) after ea .1) in
               let small = loss-small p s n (rw (read p ep) at (asks-figures p ep s after es n before en)) in
               rw (← el, lengths, ← em, within, found .0, opened .0, total, sum, ← (en ∙ opened .1), ez, read p ep, read-back (loss p s n) small)

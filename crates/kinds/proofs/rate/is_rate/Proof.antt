@@ -1,24 +1,23 @@
 -- `kinds::rate::is_rate` meets its contract. Assumes nothing.
-use mathlib.Core.Bool.{Bool, true, false}
-use mathlib.Core.Path.{_≡_, refl, sym, ap, _∙_}
+use mathlib.Core.Bool.{true, false}
+use mathlib.Core.Path.{_≡_, sym}
+use Prim.Native.Nat.{ℕ}
 use borrow.Author.Needs.{needs}
-use Rattle.model.specs.Basics.{if_then_else_}
+use Rattle.model.specs.Kind.{isRate}
+use Rattle.kinds.specs.Rate.{rateOf}
 use Rattle.kinds.specs.declared.rate.Rate.{Rate}
 use Rattle.kinds.specs.declared.rate.MaybeRate.{MaybeRate}
 use Rattle.kinds.specs.declared.rate.MaybeRate.the-variants.{Within, Outside}
-use Rattle.kinds.proofs.Within.{told-by}
+use Rattle.kinds.proofs.Within.{rate-within, rate-outside}
 use Rattle.kinds.proofs.rate.is_rate.Statement.{statement}
 use Rattle.kinds.proofs.rate.is_rate.Tie as tie
 
-abbrev told : MaybeRate → Bool
-told (Within value) = true
-told Outside = false
+module _ (n : ℕ) (x : MaybeRate) (ex : x ≡ rateOf n) where
+  within : (v : Rate) → x ≡ Within v → true ≡ isRate n
+  within v e = sym (rate-within n x ex v e .0)
 
-within : (p : Bool) (w a : Rate) (x : MaybeRate) → x ≡ (if p then Within w else Outside) → x ≡ Within a → true ≡ p
-within p w a x ex e = sym (ap told e) ∙ told-by told (Within w) Outside refl refl p x ex
-
-outside : (p : Bool) (w : Rate) (x : MaybeRate) → x ≡ (if p then Within w else Outside) → x ≡ Outside → false ≡ p
-outside p w x ex e = sym (ap told e) ∙ told-by told (Within w) Outside refl refl p x ex
+  outside : x ≡ Outside → false ≡ isRate n
+  outside e = sym (rate-outside n x ex e)
 
 new-requires : tie.Need-new-requires
 new-requires c κs = search needs

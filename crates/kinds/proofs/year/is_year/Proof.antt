@@ -1,24 +1,23 @@
 -- `kinds::year::is_year` meets its contract. Assumes nothing.
-use mathlib.Core.Bool.{Bool, true, false}
-use mathlib.Core.Path.{_≡_, refl, sym, ap, _∙_}
+use mathlib.Core.Bool.{true, false}
+use mathlib.Core.Path.{_≡_, sym}
+use Prim.Native.Nat.{ℕ}
 use borrow.Author.Needs.{needs}
-use Rattle.model.specs.Basics.{if_then_else_}
+use Rattle.model.specs.Kind.{isYear}
+use Rattle.kinds.specs.Year.{yearOf}
 use Rattle.kinds.specs.declared.year.Year.{Year}
 use Rattle.kinds.specs.declared.year.MaybeYear.{MaybeYear}
 use Rattle.kinds.specs.declared.year.MaybeYear.the-variants.{Within, Outside}
-use Rattle.kinds.proofs.Within.{told-by}
+use Rattle.kinds.proofs.Within.{year-within, year-outside}
 use Rattle.kinds.proofs.year.is_year.Statement.{statement}
 use Rattle.kinds.proofs.year.is_year.Tie as tie
 
-abbrev told : MaybeYear → Bool
-told (Within value) = true
-told Outside = false
+module _ (n : ℕ) (x : MaybeYear) (ex : x ≡ yearOf n) where
+  within : (v : Year) → x ≡ Within v → true ≡ isYear n
+  within v e = sym (year-within n x ex v e)
 
-within : (p : Bool) (w a : Year) (x : MaybeYear) → x ≡ (if p then Within w else Outside) → x ≡ Within a → true ≡ p
-within p w a x ex e = sym (ap told e) ∙ told-by told (Within w) Outside refl refl p x ex
-
-outside : (p : Bool) (w : Year) (x : MaybeYear) → x ≡ (if p then Within w else Outside) → x ≡ Outside → false ≡ p
-outside p w x ex e = sym (ap told e) ∙ told-by told (Within w) Outside refl refl p x ex
+  outside : x ≡ Outside → false ≡ isYear n
+  outside e = sym (year-outside n x ex e)
 
 new-requires : tie.Need-new-requires
 new-requires c κs = search needs

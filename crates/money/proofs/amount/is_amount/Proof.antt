@@ -1,24 +1,23 @@
 -- `money::amount::is_amount` meets its contract. Assumes nothing.
-use mathlib.Core.Bool.{Bool, true, false}
-use mathlib.Core.Path.{_≡_, refl, sym, ap, _∙_}
+use mathlib.Core.Bool.{true, false}
+use mathlib.Core.Path.{_≡_, sym}
+use Prim.Native.Nat.{ℕ}
 use borrow.Author.Needs.{needs}
-use Rattle.model.specs.Basics.{if_then_else_}
+use Rattle.model.specs.Kind.{isAmount}
+use Rattle.money.specs.Amount.{amountOf}
 use Rattle.money.specs.declared.amount.Amount.{Amount}
 use Rattle.money.specs.declared.amount.MaybeAmount.{MaybeAmount}
 use Rattle.money.specs.declared.amount.MaybeAmount.the-variants.{Within, Outside}
-use Rattle.kinds.proofs.Within.{told-by}
+use Rattle.money.proofs.Within.{amount-within, amount-outside}
 use Rattle.money.proofs.amount.is_amount.Statement.{statement}
 use Rattle.money.proofs.amount.is_amount.Tie as tie
 
-abbrev told : MaybeAmount → Bool
-told (Within value) = true
-told Outside = false
+module _ (n : ℕ) (x : MaybeAmount) (ex : x ≡ amountOf n) where
+  within : (v : Amount) → x ≡ Within v → true ≡ isAmount n
+  within v e = sym (amount-within n x ex v e .0)
 
-within : (p : Bool) (w a : Amount) (x : MaybeAmount) → x ≡ (if p then Within w else Outside) → x ≡ Within a → true ≡ p
-within p w a x ex e = sym (ap told e) ∙ told-by told (Within w) Outside refl refl p x ex
-
-outside : (p : Bool) (w : Amount) (x : MaybeAmount) → x ≡ (if p then Within w else Outside) → x ≡ Outside → false ≡ p
-outside p w x ex e = sym (ap told e) ∙ told-by told (Within w) Outside refl refl p x ex
+  outside : x ≡ Outside → false ≡ isAmount n
+  outside e = sym (amount-outside n x ex e)
 
 new-requires : tie.Need-new-requires
 new-requires c κs = search needs

@@ -1,24 +1,23 @@
 -- `money::opening::is_opening` meets its contract. Assumes nothing.
-use mathlib.Core.Bool.{Bool, true, false}
-use mathlib.Core.Path.{_≡_, refl, sym, ap, _∙_}
+use mathlib.Core.Bool.{true, false}
+use mathlib.Core.Path.{_≡_, sym}
+use Prim.Native.Nat.{ℕ}
 use borrow.Author.Needs.{needs}
-use Rattle.model.specs.Basics.{if_then_else_}
+use Rattle.model.specs.Kind.{isOpening}
+use Rattle.money.specs.Opening.{openingOf}
 use Rattle.money.specs.declared.opening.Opening.{Opening}
 use Rattle.money.specs.declared.opening.MaybeOpening.{MaybeOpening}
 use Rattle.money.specs.declared.opening.MaybeOpening.the-variants.{Within, Outside}
-use Rattle.kinds.proofs.Within.{told-by}
+use Rattle.money.proofs.Within.{opening-within, opening-outside}
 use Rattle.money.proofs.opening.is_opening.Statement.{statement}
 use Rattle.money.proofs.opening.is_opening.Tie as tie
 
-abbrev told : MaybeOpening → Bool
-told (Within value) = true
-told Outside = false
+module _ (n : ℕ) (x : MaybeOpening) (ex : x ≡ openingOf n) where
+  within : (v : Opening) → x ≡ Within v → true ≡ isOpening n
+  within v e = sym (opening-within n x ex v e .0)
 
-within : (p : Bool) (w a : Opening) (x : MaybeOpening) → x ≡ (if p then Within w else Outside) → x ≡ Within a → true ≡ p
-within p w a x ex e = sym (ap told e) ∙ told-by told (Within w) Outside refl refl p x ex
-
-outside : (p : Bool) (w : Opening) (x : MaybeOpening) → x ≡ (if p then Within w else Outside) → x ≡ Outside → false ≡ p
-outside p w x ex e = sym (ap told e) ∙ told-by told (Within w) Outside refl refl p x ex
+  outside : x ≡ Outside → false ≡ isOpening n
+  outside e = sym (opening-outside n x ex e)
 
 new-requires : tie.Need-new-requires
 new-requires c κs = search needs

@@ -1,6 +1,6 @@
 -- `money::paid::is_paid` meets its contract. Assumes nothing.
-use mathlib.Core.Bool.{Bool, true, false}
-use mathlib.Core.Path.{_≡_, refl, sym, ap, _∙_}
+use mathlib.Core.Bool.{true, false}
+use mathlib.Core.Path.{_≡_, sym}
 use borrow.Author.Needs.{needs}
 use lib.IntN.{ℤ}
 use mir.Syntax.{w64}
@@ -11,24 +11,20 @@ use Rattle.money.specs.Paid.{paidOf}
 use Rattle.money.specs.declared.paid.Paid.{Paid}
 use Rattle.money.specs.declared.paid.MaybePaid.{MaybePaid}
 use Rattle.money.specs.declared.paid.MaybePaid.the-variants.{Within, Outside}
-use Rattle.kinds.proofs.Within.{told-by}
+use Rattle.money.proofs.Within.{paid-within, paid-outside}
 use Rattle.money.proofs.paid.is_paid.Statement.{statement}
 use Rattle.money.proofs.paid.is_paid.Tie as tie
 
-abbrev told : MaybePaid → Bool
-told (Within value) = true
-told Outside = false
-
 -- the number is read from its bits
 module _ (v : ℤ) (fits : SFits w64 v) (x : MaybePaid) (ex : x ≡ paidOf (toZ w64 (ofZ w64 v))) where
-  told-is : told x ≡ isPaid v
-  told-is = told-by told (Within (record { value = v })) Outside refl refl (isPaid v) x (rw (toZ-ofZ fits) at ex)
+  read : x ≡ paidOf v
+  read = rw (toZ-ofZ fits) at ex
 
   within : (a : Paid) → x ≡ Within a → true ≡ isPaid v
-  within a e = sym (ap told e) ∙ told-is
+  within a e = sym (paid-within v x read a e)
 
   outside : x ≡ Outside → false ≡ isPaid v
-  outside e = sym (ap told e) ∙ told-is
+  outside e = sym (paid-outside v x read e)
 
 new-requires : tie.Need-new-requires
 new-requires c κs = search needs
