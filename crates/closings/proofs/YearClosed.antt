@@ -92,7 +92,7 @@ module _ (book : Book) (line : Line) (letter year : ℕ) (paid : List ℤ) (unpa
         (closing-limit letter paid unpaid tabular (pre .turned .sound .lengths) has-limits factors)
 
     end-is : yearEnd letter paid unpaid tabular factors (openingOf line) ≡ record { verdict = Fine; paid = paidTotal rows; closing = amount; loss = loss (paidTotal rows) amount (openingOf line) }
-    end-is = year-end-of-line letter paid unpaid tabular (pre .turned .sound .lengths) has-limits factors shown year (openingOf line) (opening-small line) row-factors
+    end-is = year-end-of-line letter paid unpaid tabular (pre .turned .sound .lengths) has-limits factors shown year (openingOf line) (pre .turned .sound .letter) (opening-small line) row-factors
 
     pub year-closed : length (book .lines) ≡ 15 → (o : ℕ) → o ≡ openingOf line → (end : YearEnd) → end ≡ yearEnd letter paid unpaid tabular factors o
         → (closed : Line) → closed ≡ withClosingOf line year (end .closing) → (later : Book) → later ≡ withLineOf book letter closed

@@ -107,6 +107,6 @@ module _ (run : Run) (slots out : List ℕ) (last : Answered) (laterSlots laterO
         same = text-put doneOut _ lastOut put (d .puts) ∙ rw (accepted, refused) (ap (λ (b : Book). doneText (b .accepted) (b .refused)) (c .reached .later));
       }
 
--- All that is handed to the writes, what the pieces are answered, the last line and DONE, is the model's run of the input.
+-- What the bytes of all pieces are answered, the answer to the last line and DONE are together the model's run of the input. (The answers to the parts, one after the other, are those to all of them: `texts-join` of pieces.)
 pub handed-is : (run : Run) (slots : List ℕ) (l : Led run slots) → (textOf (l .begun) (l .first) (l .input) ++ lastAnswer run slots) ++ lastCounts run slots ≡ model.run (l .input)
 handed-is run slots l = all-written (l .begun) (l .first) (l .input) _ run slots (l .starts) (l .leads)

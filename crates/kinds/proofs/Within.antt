@@ -7,9 +7,9 @@ use native.Mathlib.Omega.{arith}
 use borrow.Author.Tests.{leb-true}
 use Rattle.model.specs.Basics.{if_then_else_}
 use Rattle.model.specs.Kind.{isRate, isYear}
-use Rattle.kinds.specs.Factor.{isFactor, factorOf, factorNumber}
-use Rattle.kinds.specs.Rate.{rateOf, rateNumber}
-use Rattle.kinds.specs.Year.{yearOf}
+use Rattle.kinds.specs.Factor.{isFactor, maybeFactor, factorNumber}
+use Rattle.kinds.specs.Rate.{maybeRate, rateNumber}
+use Rattle.kinds.specs.Year.{maybeYear}
 use Rattle.kinds.specs.declared.factor.Factor.{Factor}
 use Rattle.kinds.specs.declared.factor.MaybeFactor.{MaybeFactor}
 use Rattle.kinds.specs.declared.factor.MaybeFactor.the-variants as factor
@@ -33,7 +33,7 @@ module _ {M : Type 0} (outside : M) where
 rate-apart : (v : Rate) → rate.Within v ≡ rate.Outside → ⊥
 rate-apart v e = let z : _≡_ {A = ℕ} 0 1 = cc in omega arith
 
-module _ (n : ℕ) (x : MaybeRate) (ex : x ≡ rateOf n) where
+module _ (n : ℕ) (x : MaybeRate) (ex : x ≡ maybeRate n) where
   pub rate-within : (v : Rate) → x ≡ rate.Within v → (isRate n ≡ true) × (rateNumber v ≡ n)
   rate-within v e =
       let t = taken rate.Outside (isRate n) (rate.Within (record { value = n })) x ex (rate.Within v) (rate-apart v) e in
@@ -46,7 +46,7 @@ module _ (n : ℕ) (x : MaybeRate) (ex : x ≡ rateOf n) where
 year-apart : (v : Year) → year.Within v ≡ year.Outside → ⊥
 year-apart v e = let z : _≡_ {A = ℕ} 0 1 = cc in omega arith
 
-module _ (n : ℕ) (x : MaybeYear) (ex : x ≡ yearOf n) where
+module _ (n : ℕ) (x : MaybeYear) (ex : x ≡ maybeYear n) where
   pub year-within : (v : Year) → x ≡ year.Within v → isYear n ≡ true
   year-within v e = taken year.Outside (isYear n) (year.Within (record { value = n })) x ex (year.Within v) (year-apart v) e .0
 
@@ -56,7 +56,7 @@ module _ (n : ℕ) (x : MaybeYear) (ex : x ≡ yearOf n) where
 factor-apart : (v : Factor) → factor.Within v ≡ factor.Outside → ⊥
 factor-apart v e = let z : _≡_ {A = ℕ} 0 1 = cc in omega arith
 
-module _ (n : ℕ) (x : MaybeFactor) (ex : x ≡ factorOf n) where
+module _ (n : ℕ) (x : MaybeFactor) (ex : x ≡ maybeFactor n) where
   pub factor-within : (v : Factor) → x ≡ factor.Within v → (isFactor n ≡ true) × (factorNumber v ≡ n)
   factor-within v e =
       let t = taken factor.Outside (isFactor n) (factor.Within (record { value = n })) x ex (factor.Within v) (factor-apart v) e in

@@ -12,8 +12,8 @@ use Rattle.kinds.specs.declared.factor.MaybeFactor.the-variants.{Within,
 abbrev pub isFactor : ℕ → Bool
 isFactor n = leb n 10000000000
 
-abbrev pub factorOf : ℕ → MaybeFactor
-factorOf n = if isFactor n then Within (record { value = n }) else Outside
+abbrev pub maybeFactor : ℕ → MaybeFactor
+maybeFactor n = if isFactor n then Within (record { value = n }) else Outside
 
 abbrev pub factorNumber : Factor → ℕ
 factorNumber factor = min (factor .value) 10000000000

@@ -7,8 +7,8 @@ use Rattle.kinds.specs.declared.rate.Rate.{Rate}
 use Rattle.kinds.specs.declared.rate.MaybeRate.{MaybeRate}
 use Rattle.kinds.specs.declared.rate.MaybeRate.the-variants.{Within, Outside}
 
-abbrev pub rateOf : ℕ → MaybeRate
-rateOf n = if isRate n then Within (record { value = n }) else Outside
+abbrev pub maybeRate : ℕ → MaybeRate
+maybeRate n = if isRate n then Within (record { value = n }) else Outside
 
 abbrev pub rateNumber : Rate → ℕ
 rateNumber rate = min (rate .value) 2500

@@ -7,8 +7,8 @@ use Rattle.kinds.specs.declared.year.Year.{Year}
 use Rattle.kinds.specs.declared.year.MaybeYear.{MaybeYear}
 use Rattle.kinds.specs.declared.year.MaybeYear.the-variants.{Within, Outside}
 
-abbrev pub yearOf : ℕ → MaybeYear
-yearOf n = if isYear n then Within (record { value = n }) else Outside
+abbrev pub maybeYear : ℕ → MaybeYear
+maybeYear n = if isYear n then Within (record { value = n }) else Outside
 
 abbrev pub yearNumber : Year → ℕ
 yearNumber year = max 1987 (min (year .value) 2099)

@@ -1,6 +1,6 @@
 // "Factors are kept in units of the tenth decimal, so 1 is 10,000,000,000.": a kept factor is at most 1.
 ghost use mathlib.Core.Path.{_≡_};
-ghost use Rattle.kinds.specs.Factor.{factorOf, factorNumber};
+ghost use Rattle.kinds.specs.Factor.{maybeFactor, factorNumber};
 
 pub struct Factor {
     value: u64,
@@ -16,7 +16,7 @@ impl Factor {
 
     // The factor that n is, or that it is none.
     pub fn new(n: u64) -> MaybeFactor
-        ensures { λ r. ⌜ r ≡ factorOf n ⌝ }
+        ensures { λ r. ⌜ r ≡ maybeFactor n ⌝ }
     {
         if n <= Factor::ONE {
             MaybeFactor::Within(Factor { value: n })
@@ -25,7 +25,7 @@ impl Factor {
         }
     }
 
-    // Every Factor is at most 1.
+    // Its number: at most 1, whatever the field holds. (Only `new` makes one.)
     pub fn number(self) -> u64
         ensures { λ r. ⌜ r ≡ factorNumber self ⌝ }
     {

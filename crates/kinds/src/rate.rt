@@ -2,7 +2,7 @@
 ghost use mathlib.Core.Path.{_≡_};
 ghost use Rattle.model.specs.Basics.{all};
 ghost use Rattle.model.specs.Kind.{isRate};
-ghost use Rattle.kinds.specs.Rate.{rateOf, rateNumber};
+ghost use Rattle.kinds.specs.Rate.{maybeRate, rateNumber};
 
 pub struct Rate {
     value: u64,
@@ -18,7 +18,7 @@ impl Rate {
 
     // The rate that n is, or that it is none.
     pub fn new(n: u64) -> MaybeRate
-        ensures { λ r. ⌜ r ≡ rateOf n ⌝ }
+        ensures { λ r. ⌜ r ≡ maybeRate n ⌝ }
     {
         if n <= Rate::MOST {
             MaybeRate::Within(Rate { value: n })
@@ -27,7 +27,7 @@ impl Rate {
         }
     }
 
-    // Every Rate is within its limits.
+    // Its number: at most the limit, whatever the field holds. (Only `new` makes one.)
     pub fn number(self) -> u64
         ensures { λ r. ⌜ r ≡ rateNumber self ⌝ }
     {

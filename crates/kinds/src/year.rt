@@ -1,7 +1,7 @@
 // "Years are 1987 to 2099."
 ghost use mathlib.Core.Path.{_≡_};
 ghost use Rattle.model.specs.Kind.{isYear};
-ghost use Rattle.kinds.specs.Year.{yearOf, yearNumber};
+ghost use Rattle.kinds.specs.Year.{maybeYear, yearNumber};
 
 pub struct Year {
     value: u64,
@@ -19,7 +19,7 @@ impl Year {
 
     // The year that n is, or that it is none.
     pub fn new(n: u64) -> MaybeYear
-        ensures { λ r. ⌜ r ≡ yearOf n ⌝ }
+        ensures { λ r. ⌜ r ≡ maybeYear n ⌝ }
     {
         if n < Year::FIRST {
             return MaybeYear::Outside;
@@ -31,7 +31,7 @@ impl Year {
         }
     }
 
-    // Every Year is within its limits.
+    // Its number: within the limits, whatever the field holds. (Only `new` makes one.)
     pub fn number(self) -> u64
         ensures { λ r. ⌜ r ≡ yearNumber self ⌝ }
     {

@@ -21,7 +21,7 @@ answered (answer.Line letter opening) published = model.declared letter opening
 answered (answer.Rate year rate) published = model.rated year rate
 answered (answer.Fact letter year) published = model.fact letter year (take (ages letter) published) (getD published 10 0)
 answered (answer.Tax letter year paid opening closing loss) published = model.tax letter year paid opening closing loss
-answered (answer.No question) published = model.refusal (numberOf question)
+answered (answer.No refusal) published = model.refusal (numberOf refusal)
 
 -- what stands beside any answer but a FACT
 abbrev pub nothing : List ℕ
@@ -40,10 +40,10 @@ abbrev pub outcomeOf : Outcome → List ℕ → model-step.Outcome
 outcomeOf r slots = record { book = view (r .book) slots; answer = answered (r .answer) (r .published) }
 
 abbrev pub refusedOf : Book → Refusal → Outcome
-refusedOf book question =
+refusedOf book refusal =
     record {
       book = record { rates = book .rates; lines = book .lines; accepted = book .accepted; refused = oneMore (book .refused) };
-      answer = answer.No question;
+      answer = answer.No refusal;
       published = nothing;
     }
 

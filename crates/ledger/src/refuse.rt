@@ -1,4 +1,4 @@
-// A refused record, by what the question asks that is answered no.
+// A refused record, with its refusal.
 use crate::accept::one_more;
 use crate::answer::Answer;
 use crate::answer::Outcome;

@@ -12,7 +12,6 @@ use state::book::Book;
 use state::rates::YearRate;
 use state::rates::rate_of;
 use state::rates::with_rate;
-ghost use mathlib.Core.Path.{_≡_};
 ghost use Rattle.model.specs.Call.{setRate};
 ghost use Rattle.model.specs.Step.{asNumbers};
 ghost use Rattle.kinds.specs.Rate.{rateNumber};

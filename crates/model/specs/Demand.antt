@@ -36,7 +36,7 @@ unpaidAt k pay = unpaid (drop (suc k) pay)
 abbrev pub exactAt : ℕ → ℕ → List ℕ → Fraction
 exactAt rate k pay = exactRatio rate (drop (suc k) pay)
 
--- (i) A pattern that a book keeps: "kept factors and composites are at most the exact ratio and less than 29 units of the tenth decimal below it", each where something is unpaid.
+-- (i) A pattern that a book keeps: its factors and its composite are at most the exact ratio and less than 29 units of the tenth decimal below it, each where something is unpaid.
 -- "A kept factor is compared with its exact ratio × 10,000,000,000, a composite with its exact value × 10,000,000,000."
 pub record KeptNear (h : List Entry) (letter : ℕ) (pattern : Kept) : Type 0 where
   pub rate : ℕ

@@ -8,10 +8,10 @@ use borrow.Author.Tests.{leb-true}
 use lib.IntN.{ℤ}
 use Rattle.model.specs.Kind.{isAmount, isOpening, isPaid}
 use Rattle.kinds.proofs.Within.{taken, left}
-use Rattle.money.specs.Amount.{amountOf, amountNumber}
-use Rattle.money.specs.Closing.{isClosing, closingOf, closingNumber}
-use Rattle.money.specs.Opening.{openingOf, openingNumber}
-use Rattle.money.specs.Paid.{paidOf}
+use Rattle.money.specs.Amount.{maybeAmount, amountNumber}
+use Rattle.money.specs.Closing.{isClosing, maybeClosing, closingNumber}
+use Rattle.money.specs.Opening.{maybeOpening, openingNumber}
+use Rattle.money.specs.Paid.{maybePaid}
 use Rattle.money.specs.declared.amount.Amount.{Amount}
 use Rattle.money.specs.declared.amount.MaybeAmount.{MaybeAmount}
 use Rattle.money.specs.declared.amount.MaybeAmount.the-variants as amount
@@ -28,7 +28,7 @@ use Rattle.money.specs.declared.paid.MaybePaid.the-variants as paid
 pub amount-apart : (v : Amount) → amount.Within v ≡ amount.Outside → ⊥
 amount-apart v e = let z : _≡_ {A = ℕ} 0 1 = cc in omega arith
 
-module _ (n : ℕ) (x : MaybeAmount) (ex : x ≡ amountOf n) where
+module _ (n : ℕ) (x : MaybeAmount) (ex : x ≡ maybeAmount n) where
   pub amount-within : (v : Amount) → x ≡ amount.Within v → (isAmount n ≡ true) × (amountNumber v ≡ n)
   amount-within v e =
       let t = taken amount.Outside (isAmount n) (amount.Within (record { value = n })) x ex (amount.Within v) (amount-apart v) e in
@@ -41,7 +41,7 @@ module _ (n : ℕ) (x : MaybeAmount) (ex : x ≡ amountOf n) where
 opening-apart : (v : Opening) → opening.Within v ≡ opening.Outside → ⊥
 opening-apart v e = let z : _≡_ {A = ℕ} 0 1 = cc in omega arith
 
-module _ (n : ℕ) (x : MaybeOpening) (ex : x ≡ openingOf n) where
+module _ (n : ℕ) (x : MaybeOpening) (ex : x ≡ maybeOpening n) where
   pub opening-within : (v : Opening) → x ≡ opening.Within v → (isOpening n ≡ true) × (openingNumber v ≡ n)
   opening-within v e =
       let t = taken opening.Outside (isOpening n) (opening.Within (record { value = n })) x ex (opening.Within v) (opening-apart v) e in
@@ -54,7 +54,7 @@ module _ (n : ℕ) (x : MaybeOpening) (ex : x ≡ openingOf n) where
 pub closing-apart : (v : Closing) → closing.Within v ≡ closing.Outside → ⊥
 closing-apart v e = let z : _≡_ {A = ℕ} 0 1 = cc in omega arith
 
-module _ (n : ℕ) (x : MaybeClosing) (ex : x ≡ closingOf n) where
+module _ (n : ℕ) (x : MaybeClosing) (ex : x ≡ maybeClosing n) where
   pub closing-within : (v : Closing) → x ≡ closing.Within v → (isClosing n ≡ true) × (closingNumber v ≡ n)
   closing-within v e =
       let t = taken closing.Outside (isClosing n) (closing.Within (record { value = n })) x ex (closing.Within v) (closing-apart v) e in
@@ -67,7 +67,7 @@ module _ (n : ℕ) (x : MaybeClosing) (ex : x ≡ closingOf n) where
 paid-apart : (v : Paid) → paid.Within v ≡ paid.Outside → ⊥
 paid-apart v e = let z : _≡_ {A = ℕ} 0 1 = cc in omega arith
 
-module _ (n : ℤ) (x : MaybePaid) (ex : x ≡ paidOf n) where
+module _ (n : ℤ) (x : MaybePaid) (ex : x ≡ maybePaid n) where
   pub paid-within : (v : Paid) → x ≡ paid.Within v → isPaid n ≡ true
   paid-within v e = taken paid.Outside (isPaid n) (paid.Within (record { value = n })) x ex (paid.Within v) (paid-apart v) e .0
 

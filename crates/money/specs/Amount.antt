@@ -7,8 +7,8 @@ use Rattle.money.specs.declared.amount.Amount.{Amount}
 use Rattle.money.specs.declared.amount.MaybeAmount.{MaybeAmount}
 use Rattle.money.specs.declared.amount.MaybeAmount.the-variants.{Within, Outside}
 
-abbrev pub amountOf : ℕ → MaybeAmount
-amountOf n = if isAmount n then Within (record { value = n }) else Outside
+abbrev pub maybeAmount : ℕ → MaybeAmount
+maybeAmount n = if isAmount n then Within (record { value = n }) else Outside
 
 abbrev pub amountNumber : Amount → ℕ
 amountNumber amount = min (amount .value) 10000000000

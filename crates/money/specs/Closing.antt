@@ -11,8 +11,8 @@ use Rattle.money.specs.declared.closing.MaybeClosing.the-variants.{Withi
 abbrev pub isClosing : ℕ → Bool
 isClosing n = leb n 110000000000
 
-abbrev pub closingOf : ℕ → MaybeClosing
-closingOf n = if isClosing n then Within (record { value = n }) else Outside
+abbrev pub maybeClosing : ℕ → MaybeClosing
+maybeClosing n = if isClosing n then Within (record { value = n }) else Outside
 
 abbrev pub closingNumber : Closing → ℕ
 closingNumber closing = min (closing .value) 110000000000

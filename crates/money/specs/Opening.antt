@@ -7,8 +7,8 @@ use Rattle.money.specs.declared.opening.Opening.{Opening}
 use Rattle.money.specs.declared.opening.MaybeOpening.{MaybeOpening}
 use Rattle.money.specs.declared.opening.MaybeOpening.the-variants.{Within, Outside}
 
-abbrev pub openingOf : ℕ → MaybeOpening
-openingOf n = if isOpening n then Within (record { value = n }) else Outside
+abbrev pub maybeOpening : ℕ → MaybeOpening
+maybeOpening n = if isOpening n then Within (record { value = n }) else Outside
 
 abbrev pub openingNumber : Opening → ℕ
 openingNumber opening = min (opening .value) 100000000000

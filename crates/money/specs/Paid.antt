@@ -6,5 +6,5 @@ use Rattle.model.specs.Kind.{isPaid}
 use Rattle.money.specs.declared.paid.MaybePaid.{MaybePaid}
 use Rattle.money.specs.declared.paid.MaybePaid.the-variants.{Within, Outside}
 
-abbrev pub paidOf : ℤ → MaybePaid
-paidOf v = if isPaid v then Within (record { value = v }) else Outside
+abbrev pub maybePaid : ℤ → MaybePaid
+maybePaid v = if isPaid v then Within (record { value = v }) else Outside

@@ -2,7 +2,7 @@
 ghost use mathlib.Core.Path.{_≡_};
 ghost use Rattle.model.specs.Basics.{all};
 ghost use Rattle.model.specs.Kind.{isAmount};
-ghost use Rattle.money.specs.Amount.{amountOf, amountNumber};
+ghost use Rattle.money.specs.Amount.{maybeAmount, amountNumber};
 
 pub struct Amount {
     value: u64,
@@ -18,7 +18,7 @@ impl Amount {
 
     // The amount that n is, or that it is none.
     pub fn new(n: u64) -> MaybeAmount
-        ensures { λ r. ⌜ r ≡ amountOf n ⌝ }
+        ensures { λ r. ⌜ r ≡ maybeAmount n ⌝ }
     {
         if n <= Amount::MOST {
             MaybeAmount::Within(Amount { value: n })
@@ -27,7 +27,7 @@ impl Amount {
         }
     }
 
-    // Every Amount is within its limits.
+    // Its number: at most the limit, whatever the field holds. (Only `new` makes one.)
     pub fn number(self) -> u64
         ensures { λ r. ⌜ r ≡ amountNumber self ⌝ }
     {

@@ -1,7 +1,7 @@
 // "LINE, letter, opening (0 to 100,000,000,000).": the opening that a line declares.
 ghost use mathlib.Core.Path.{_≡_};
 ghost use Rattle.model.specs.Kind.{isOpening};
-ghost use Rattle.money.specs.Opening.{openingOf, openingNumber};
+ghost use Rattle.money.specs.Opening.{maybeOpening, openingNumber};
 
 pub struct Opening {
     value: u64,
@@ -17,7 +17,7 @@ impl Opening {
 
     // The opening that n is, or that it is none.
     pub fn new(n: u64) -> MaybeOpening
-        ensures { λ r. ⌜ r ≡ openingOf n ⌝ }
+        ensures { λ r. ⌜ r ≡ maybeOpening n ⌝ }
     {
         if n <= Opening::MOST {
             MaybeOpening::Within(Opening { value: n })
@@ -26,7 +26,7 @@ impl Opening {
         }
     }
 
-    // Every Opening is within its limits.
+    // Its number: at most the limit, whatever the field holds. (Only `new` makes one.)
     pub fn number(self) -> u64
         ensures { λ r. ⌜ r ≡ openingNumber self ⌝ }
     {

@@ -2,7 +2,7 @@
 ghost use mathlib.Core.Path.{_≡_};
 ghost use Rattle.model.specs.Basics.{all};
 ghost use Rattle.model.specs.Kind.{isPaid};
-ghost use Rattle.money.specs.Paid.{paidOf};
+ghost use Rattle.money.specs.Paid.{maybePaid};
 
 pub struct Paid {
     value: i64,
@@ -20,7 +20,7 @@ impl Paid {
 
     // The paid that v is, or that it is none.
     pub fn new(v: i64) -> MaybePaid
-        ensures { λ r. ⌜ r ≡ paidOf v ⌝ }
+        ensures { λ r. ⌜ r ≡ maybePaid v ⌝ }
     {
         if v < Paid::LEAST {
             return MaybePaid::Outside;

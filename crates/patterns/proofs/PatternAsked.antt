@@ -101,7 +101,7 @@ module _ (book : Book) (line : Line) (letter year rate : ℕ) (paid incurred : L
   fine = keptOf letter rate (schedule letter (agesOf paid incurred))
 
   pattern-is : pattern ≡ patternBy (scheduleBy (first-of (hasIncurred asks) (climbs asks)) letter (agesOf paid incurred) .verdict) fine
-  pattern-is = ep ∙ rw (pre .sound .lengths, amounts (isYear year) (all isAmount paid) (all isAmount incurred) (pre .sound .limits))
+  pattern-is = ep ∙ rw (pre .sound .letter, pre .sound .lengths, amounts (isYear year) (all isAmount paid) (all isAmount incurred) (pre .sound .limits))
 
   first-of-two : (slots : List ℕ) → firstNo (bookQuestions (view book slots) asks) ≡ first-of (hasIncurred asks) (climbs asks)
   first-of-two slots = first-is book letter year paid incurred (pre .sound) line (pre .here) slots ∙ rw (pre .turn, pre .rated, pre .declared)

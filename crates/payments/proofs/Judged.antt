@@ -9,17 +9,17 @@ use borrow.Author.Tests.{eq-eqb, ne-eqb}
 use lib.ListN.{length, take, getD, replicate}
 use Rattle.model.specs.Basics.{if_then_else_, all, lastOr}
 use Rattle.model.specs.Kind.{isAmount}
-use Rattle.model.specs.Letter.{tenYear, ages}
+use Rattle.model.specs.Letter.{covered, tenYear, ages}
 use Rattle.model.specs.Pattern.{agesOf, cumulative, payments}
 use Rattle.model.specs.Tail.{tenYearTail, twoYearTail, schedule}
 use Rattle.model.specs.Question.{isIncurred}
 use Rattle.model.proofs.Ages.{ages-small}
 use Rattle.payments.specs.declared.schedule.Schedule.{Schedule}
 use Rattle.refusal.specs.Number.{refusalOf}
-use Rattle.refusal.specs.declared.Refusal.the-variants.{WrongCount, OutsideLimits, IncurredTooSmall, RatioFalls}
+use Rattle.refusal.specs.declared.Refusal.the-variants.{UncoveredLetter, WrongCount, OutsideLimits, IncurredTooSmall, RatioFalls}
 use Rattle.refusal.specs.declared.Verdict.the-variants.{Fine}
 use Rattle.payments.specs.Payment.{Paired, Payable, Paid}
-use Rattle.payments.specs.Schedule.{refused, judgedOf, scheduleOf, Listed, inPlaces, tailed}
+use Rattle.payments.specs.Schedule.{refused, judgedOf, listedOf, scheduleOf, Listed, inPlaces, tailed}
 
 -- what the loops over the ages are given
 pub paired : (letter : ℕ) (paid incurred : List ℕ) → Listed letter paid incurred → Paired paid incurred
@@ -75,21 +75,30 @@ module _ (letter : ℕ) (paid incurred : List ℕ) (r : Schedule) where
   judged-incurred q11 k = rw q11 k
 
   -- and questions 4 and 6
-  pub length-paid : (length paid ≡ ages letter → ⊥) → r ≡ refused WrongCount → r ≡ scheduleOf letter paid incurred
+  pub length-paid : (length paid ≡ ages letter → ⊥) → r ≡ refused WrongCount → r ≡ listedOf letter paid incurred
   unfolding refusalOf
   length-paid n k = rw (ne-eqb (length paid) (ages letter) n) k
 
-  pub length-incurred : length paid ≡ ages letter → (length incurred ≡ ages letter → ⊥) → r ≡ refused WrongCount → r ≡ scheduleOf letter paid incurred
+  pub length-incurred : length paid ≡ ages letter → (length incurred ≡ ages letter → ⊥) → r ≡ refused WrongCount → r ≡ listedOf letter paid incurred
   unfolding refusalOf
   length-incurred e n k = rw (eq-eqb (length paid) (ages letter) e, ne-eqb (length incurred) (ages letter) n) k
 
-  pub limits-paid : length paid ≡ ages letter → length incurred ≡ ages letter → all isAmount paid ≡ false → r ≡ refused OutsideLimits → r ≡ scheduleOf letter paid incurred
+  pub limits-paid : length paid ≡ ages letter → length incurred ≡ ages letter → all isAmount paid ≡ false → r ≡ refused OutsideLimits → r ≡ listedOf letter paid incurred
   unfolding refusalOf
   limits-paid e n a k = rw (eq-eqb (length paid) (ages letter) e, eq-eqb (length incurred) (ages letter) n, a) k
 
-  pub limits-incurred : length paid ≡ ages letter → length incurred ≡ ages letter → all isAmount paid ≡ true → all isAmount incurred ≡ false → r ≡ refused OutsideLimits → r ≡ scheduleOf letter paid incurred
+  pub limits-incurred : length paid ≡ ages letter → length incurred ≡ ages letter → all isAmount paid ≡ true → all isAmount incurred ≡ false → r ≡ refused OutsideLimits → r ≡ listedOf letter paid incurred
   unfolding refusalOf
   limits-incurred e n a b k = rw (eq-eqb (length paid) (ages letter) e, eq-eqb (length incurred) (ages letter) n, a, b) k
 
-  pub judged : length paid ≡ ages letter → length incurred ≡ ages letter → all isAmount paid ≡ true → all isAmount incurred ≡ true → r ≡ judgedOf letter paid incurred → r ≡ scheduleOf letter paid incurred
+  pub judged : length paid ≡ ages letter → length incurred ≡ ages letter → all isAmount paid ≡ true → all isAmount incurred ≡ true → r ≡ judgedOf letter paid incurred → r ≡ listedOf letter paid incurred
   judged e n a b k = rw (eq-eqb (length paid) (ages letter) e, eq-eqb (length incurred) (ages letter) n, a, b) k
+
+  -- and question 3
+  module _ (t : Bool) (et : t ≡ covered letter) where
+    pub letter-covered : t ≡ true → r ≡ listedOf letter paid incurred → r ≡ scheduleOf letter paid incurred
+    letter-covered e k = rw (← et, e) k
+
+    pub letter-refused : t ≡ false → r ≡ refused UncoveredLetter → r ≡ scheduleOf letter paid incurred
+    unfolding refusalOf
+    letter-refused e k = rw (← et, e) k

@@ -11,7 +11,7 @@ use lib.ListN.{length, take, replicate, length-append, length-map}
 use lib.Seq.{take-at}
 use Rattle.model.specs.Basics.{if_then_else_, all, lastOr, sum}
 use Rattle.model.specs.Kind.{isAmount}
-use Rattle.model.specs.Letter.{tenYear, ages}
+use Rattle.model.specs.Letter.{covered, tenYear, ages}
 use Rattle.model.specs.Pattern.{Age, agesOf, cumulative, payments, whole}
 use Rattle.model.specs.Tail.{tenYearTail, twoYearTail, schedule}
 use Rattle.model.specs.Call.{addPattern}
@@ -38,32 +38,34 @@ sum-zeros zero = refl
 sum-zeros (suc n) = omega (arith, sum-zeros n)
 
 -- a fine verdict has passed every question
-record Passed (a b c d : Bool) : Type 0 where
+record Passed (l a b c d : Bool) : Type 0 where
+  letter : l ≡ true
   lengths : a ≡ true
   limits : b ≡ true
   incurred : c ≡ true
   climbing : d ≡ true
 
-fine-passes : (a b c d : Bool) (letter : ℕ) (given : List Age) → scheduleBy (firstNo ((4, a) ∷ (6, b) ∷ (11, c) ∷ (12, d) ∷ [])) letter given .verdict ≡ Fine → Passed a b c d
-fine-passes true true true true letter given e = record { lengths = refl; limits = refl; incurred = refl; climbing = refl }
-fine-passes true true true false letter given e = let z : _≡_ {A = ℕ} 0 1 = cc in absurd (omega arith)
-fine-passes true true false d letter given e = let z : _≡_ {A = ℕ} 0 1 = cc in absurd (omega arith)
-fine-passes true false c d letter given e = let z : _≡_ {A = ℕ} 0 1 = cc in absurd (omega arith)
-fine-passes false b c d letter given e = let z : _≡_ {A = ℕ} 0 1 = cc in absurd (omega arith)
+fine-passes : (l a b c d : Bool) (letter : ℕ) (given : List Age) → scheduleBy (firstNo ((3, l) ∷ (4, a) ∷ (6, b) ∷ (11, c) ∷ (12, d) ∷ [])) letter given .verdict ≡ Fine → Passed l a b c d
+fine-passes true true true true true letter given e = record { letter = refl; lengths = refl; limits = refl; incurred = refl; climbing = refl }
+fine-passes true true true true false letter given e = let z : _≡_ {A = ℕ} 0 1 = cc in absurd (omega arith)
+fine-passes true true true false d letter given e = let z : _≡_ {A = ℕ} 0 1 = cc in absurd (omega arith)
+fine-passes true true false c d letter given e = let z : _≡_ {A = ℕ} 0 1 = cc in absurd (omega arith)
+fine-passes true false b c d letter given e = let z : _≡_ {A = ℕ} 0 1 = cc in absurd (omega arith)
+fine-passes false a b c d letter given e = let z : _≡_ {A = ℕ} 0 1 = cc in absurd (omega arith)
 
 module _ (letter : ℕ) (paid incurred : List ℕ) (fine : scheduleOf letter paid incurred .verdict ≡ Fine) where
   abbrev given : List Age
   given = agesOf paid incurred
 
-  passed : Passed (hasLengths (addPattern letter 0 paid incurred)) (all isAmount paid && all isAmount incurred) (hasIncurred (addPattern letter 0 paid incurred)) (climbs (addPattern letter 0 paid incurred))
+  passed : Passed (covered letter) (hasLengths (addPattern letter 0 paid incurred)) (all isAmount paid && all isAmount incurred) (hasIncurred (addPattern letter 0 paid incurred)) (climbs (addPattern letter 0 paid incurred))
   passed =
-      fine-passes (hasLengths (addPattern letter 0 paid incurred)) (all isAmount paid && all isAmount incurred) (hasIncurred (addPattern letter 0 paid incurred)) (climbs (addPattern letter 0 paid incurred)) letter given fine
+      fine-passes (covered letter) (hasLengths (addPattern letter 0 paid incurred)) (all isAmount paid && all isAmount incurred) (hasIncurred (addPattern letter 0 paid incurred)) (climbs (addPattern letter 0 paid incurred)) letter given fine
 
   pub fine-lengths : hasLengths (addPattern letter 0 paid incurred) ≡ true
   fine-lengths = passed .lengths
 
   in-places : scheduleOf letter paid incurred .pay ≡ inPlaces letter (schedule letter given)
-  in-places = rw (passed .lengths, passed .limits, passed .incurred, passed .climbing)
+  in-places = rw (passed .letter, passed .lengths, passed .limits, passed .incurred, passed .climbing)
 
   -- its first places are the payments at all ages
   pub fine-pays : take (allAges letter) (scheduleOf letter paid incurred .pay) ≡ schedule letter given

@@ -8,7 +8,7 @@ use Prim.Native.Nat.{ℕ, _-_}
 use lib.ListN.{length, take, getD, replicate}
 use Rattle.model.specs.Basics.{if_then_else_, all}
 use Rattle.model.specs.Kind.{isAmount}
-use Rattle.model.specs.Letter.{tenYear, ages}
+use Rattle.model.specs.Letter.{covered, tenYear, ages}
 use Rattle.model.specs.Pattern.{Age, agesOf}
 use Rattle.model.specs.Tail.{tenYearTail, twoYearTail, schedule}
 use Rattle.model.specs.Call.{addPattern}
@@ -26,12 +26,16 @@ allAges letter = if tenYear letter then 16 else 4
 abbrev pub inPlaces : ℕ → List ℕ → List ℕ
 inPlaces letter pay = pay ++ replicate (16 - allAges letter) 0
 
+-- what a refusal holds beside its verdict
+abbrev pub refused : Refusal → Schedule
+refused refusal = record { verdict = Refused refusal; pay = replicate 16 0 }
+
 -- a schedule by the first question answered no: fine where there is none, and else zeros beside the refusal
 abbrev pub scheduleBy : Option ℕ → ℕ → List Age → Schedule
 scheduleBy none letter given = record { verdict = Fine; pay = inPlaces letter (schedule letter given) }
-scheduleBy (some question) letter given = record { verdict = Refused (refusalOf question); pay = replicate 16 0 }
+scheduleBy (some question) letter given = refused (refusalOf question)
 
--- questions 11 and 12 of document 01. (The year of the call is not looked at.)
+-- questions 11 and 12. (The year of the call is not looked at.)
 abbrev pub ratioQuestions : ℕ → List ℕ → List ℕ → List (ℕ × Bool)
 ratioQuestions letter paid incurred = (11, hasIncurred (addPattern letter 0 paid incurred)) ∷ (12, climbs (addPattern letter 0 paid incurred)) ∷ []
 
@@ -43,12 +47,12 @@ listQuestions letter paid incurred =
 abbrev pub judgedOf : ℕ → List ℕ → List ℕ → Schedule
 judgedOf letter paid incurred = scheduleBy (firstNo (ratioQuestions letter paid incurred)) letter (agesOf paid incurred)
 
-abbrev pub scheduleOf : ℕ → List ℕ → List ℕ → Schedule
-scheduleOf letter paid incurred = scheduleBy (firstNo (listQuestions letter paid incurred)) letter (agesOf paid incurred)
+abbrev pub listedOf : ℕ → List ℕ → List ℕ → Schedule
+listedOf letter paid incurred = scheduleBy (firstNo (listQuestions letter paid incurred)) letter (agesOf paid incurred)
 
--- what a refusal holds beside its verdict
-abbrev pub refused : Refusal → Schedule
-refused refusal = record { verdict = Refused refusal; pay = replicate 16 0 }
+-- and question 3
+abbrev pub scheduleOf : ℕ → List ℕ → List ℕ → Schedule
+scheduleOf letter paid incurred = scheduleBy (firstNo ((3, covered letter) ∷ listQuestions letter paid incurred)) letter (agesOf paid incurred)
 
 -- lists that questions 4 and 6 let through
 pub record Listed (letter : ℕ) (paid incurred : List ℕ) : Type 0 where

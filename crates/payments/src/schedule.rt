@@ -9,9 +9,9 @@ use refusal::Refusal;
 use refusal::Verdict;
 ghost use mathlib.Core.Path.{_≡_};
 ghost use Prim.Native.Nat.{_-_, _*_, _≤_};
-ghost use Rattle.payments.specs.Schedule.{scheduleOf, judgedOf, refused, Listed, inPlaces, tailed};
+ghost use Rattle.payments.specs.Schedule.{scheduleOf, listedOf, judgedOf, refused, Listed, inPlaces, tailed};
 
-// What questions 4, 6, 11 and 12 of the lists come to; and the payments, in half units, at ages 1 to 16, or at 1 to 4 and then zeros.
+// What questions 3, 4, 6, 11 and 12 come to; and the payments, in half units, at ages 1 to 16, or at 1 to 4 and then zeros.
 pub struct Schedule {
     pub verdict: Verdict,
     pub pay: [u64; 16],
@@ -20,6 +20,16 @@ pub struct Schedule {
 // "A pattern record gives cumulative paid and incurred for each age, youngest age first.": the schedule that these lists give for a line.
 pub fn schedule_of(letter: u8, paid: &[u64], incurred: &[u64]) -> Schedule
     ensures { λ r. ⌜ r ≡ scheduleOf letter (now (paid .entry)) (now (incurred .entry)) ⌝ }
+{
+    if letter::is_covered(letter) {
+        return ask_lists(letter, paid, incurred);
+    }
+    refuse(Refusal::UncoveredLetter)
+}
+
+// Questions 4 and 6, and on.
+fn ask_lists(letter: u8, paid: &[u64], incurred: &[u64]) -> Schedule
+    ensures { λ r. ⌜ r ≡ listedOf letter (now (paid .entry)) (now (incurred .entry)) ⌝ }
 {
     let ages = letter::ages(letter);
     if paid.len() != ages {

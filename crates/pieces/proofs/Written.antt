@@ -12,7 +12,7 @@ use Rattle.answer.specs.Put.{placed, Puts}
 use Rattle.pieces.specs.declared.feed.Run.{Run}
 use Rattle.pieces.specs.declared.feed.Fed.{Fed}
 use Rattle.pieces.specs.Progress.{Progress, ended, lengthened, taking, takingAll, closed}
-use Rattle.pieces.specs.Feed.{progressOf, Leads, Feeds}
+use Rattle.pieces.specs.Feed.{progressOf, textOf, Leads, Feeds}
 use Rattle.pieces.proofs.Joining.{open-bytes}
 use Rattle.pieces.proofs.Pieces.{pieces-join}
 
@@ -57,7 +57,7 @@ module _ (out text later : List ℕ) (put : ℕ) (p : Puts out 0 text later put)
   unfolding placed
   put-inside = rw (p .whole, length-append text (drop (0 + length text) out)) (omega (arith, p .after-it))
 
--- no byte leads nowhere, and some bytes and the next ones lead on
+-- no bytes leave a run where it is, and some bytes and the next ones lead on
 pub leads-none : (run : Run) (slots : List ℕ) → Leads run slots [] [] run slots
 unfolding takingAll
 leads-none run slots = record { progress = refl }
@@ -75,6 +75,14 @@ leads-on run slots bytes text middle middleSlots l more next later laterSlots m 
           ∙ rw (leads-here run slots bytes text middle middleSlots l) (all-after text more (progressOf middle middleSlots))
           ∙ ap (after-text text) (m .progress);
     }
+
+-- what some bytes and the next ones are answered is the answers to the ones and then to the others
+pub texts-join : (run : Run) (slots bytes : List ℕ) (middle : Run) (middleSlots : List ℕ) → Leads run slots bytes (textOf run slots bytes) middle middleSlots
+    → (more : List ℕ) → textOf run slots (bytes ++ more) ≡ textOf run slots bytes ++ textOf middle middleSlots more
+texts-join run slots bytes middle middleSlots l more =
+    let joined : takingAll (progressOf run slots) (bytes ++ more) ≡ after-text (textOf run slots bytes) (takingAll (progressOf middle middleSlots) more) =
+    pieces-join (progressOf run slots) bytes more ∙ rw (leads-here run slots bytes (textOf run slots bytes) middle middleSlots l) (all-after (textOf run slots bytes) more (progressOf middle middleSlots)) in
+    ap (λ (s : Progress). s .written) joined
 
 -- what `feed` promises
 pub feed-leads : (run : Run) (slots piece out : List ℕ) (r : Fed) (laterSlots laterOut : List ℕ) → Feeds run slots piece out r laterSlots laterOut

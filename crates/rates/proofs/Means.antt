@@ -2,7 +2,7 @@
 -- Assumes nothing.
 use mathlib.Core.Bool.{Bool, true, false}
 use mathlib.Core.List.{List}
-use mathlib.Core.Path.{_≡_, refl, sym, _∙_}
+use mathlib.Core.Path.{_≡_, sym, _∙_}
 use Prim.Native.Nat.{ℕ, _+_, _/_, _≤_}
 use native.Mathlib.Omega.{arith}
 use borrow.Author.Tests.{eq-eqb, ne-eqb, le-leb}
@@ -33,7 +33,7 @@ module _ (months : List ℕ) where
       pub small : s ≤ 150000
       small = omega (arith, sum-small months (sym et ∙ e))
 
-      module _ (x : MaybeRate) (ex : x ≡ kinds.rateOf ((s + 30) / 60)) where
+      module _ (x : MaybeRate) (ex : x ≡ kinds.maybeRate ((s + 30) / 60)) where
         within : x ≡ Within (record { value = (s + 30) / 60 })
         within = ex ∙ rw (le-leb ((s + 30) / 60) 2500 (omega (arith, small)))
 

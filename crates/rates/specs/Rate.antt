@@ -4,19 +4,18 @@ use mathlib.Core.Bool.{Bool}
 use mathlib.Core.List.{List, [], _∷_}
 use mathlib.Core.Option.{Option, none, some}
 use Prim.Native.Nat.{ℕ}
-use lib.Dec.{eqb}
-use lib.ListN.{length}
 use Rattle.model.specs.Basics.{all}
 use Rattle.model.specs.Kind.{isRate}
-use Rattle.model.specs.Question.{firstNo}
+use Rattle.model.specs.Call.{setRate}
+use Rattle.model.specs.Question.{hasLengths, firstNo}
 use Rattle.model.specs.Rate.{rateOf}
 use Rattle.refusal.specs.Number.{refusalOf}
 use Rattle.rates.specs.declared.rate.Mean.{Mean}
 use Rattle.rates.specs.declared.rate.Mean.the-variants.{Is, Refused}
 
--- "4. Is the count of fields right?" "6. Is every number within its limits?": of the months
+-- "4. Is the count of fields right?" "6. Is every number within its limits?": of the months. (The year of the call is not looked at.)
 abbrev pub monthQuestions : List ℕ → List (ℕ × Bool)
-monthQuestions months = (4, eqb (length months) 60) ∷ (6, all isRate months) ∷ []
+monthQuestions months = (4, hasLengths (setRate 0 months)) ∷ (6, all isRate months) ∷ []
 
 -- the rate, or the first question answered no
 abbrev pub meanBy : Option ℕ → ℕ → Mean

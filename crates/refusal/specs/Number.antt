@@ -1,14 +1,11 @@
 -- "For every case of an enum answer, a definition gives this paper's number and values."
 -- Assumes nothing: these are definitions.
 use mathlib.Core.List.{List, [], _∷_}
-use mathlib.Core.Option.{Option, none, some}
 use Prim.Native.Nat.{ℕ}
 use lib.Dec.{eqb}
 use Rattle.model.specs.Basics.{if_then_else_}
 use Rattle.refusal.specs.declared.Refusal.{Refusal}
 use Rattle.refusal.specs.declared.Refusal.the-variants.{TooLong, UnknownWord, UncoveredLetter, WrongCount, BadlyWritten, OutsideLimits, AlreadyGiven, NotDeclared, NoRate, OutOfTurn, IncurredTooSmall, RatioFalls, NoPattern}
-use Rattle.refusal.specs.declared.Verdict.{Verdict}
-use Rattle.refusal.specs.declared.Verdict.the-variants.{Fine, Refused}
 
 -- the number of the question that each refusal answers no
 abbrev pub numberOf : Refusal → ℕ
@@ -47,8 +44,3 @@ refusalOf question =
     ∷ IncurredTooSmall
     ∷ RatioFalls
     ∷ [])
-
--- fine, or the first question answered no
-abbrev pub verdictOf : Option ℕ → Verdict
-verdictOf none = Fine
-verdictOf (some question) = Refused (refusalOf question)

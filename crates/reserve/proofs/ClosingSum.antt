@@ -16,7 +16,7 @@ use Rattle.kinds.specs.Factor.{isFactor}
 use Rattle.kinds.proofs.All as all-of
 use Rattle.kinds.proofs.All.{Passing}
 use Rattle.money.specs.Amount.{amountNumber}
-use Rattle.money.specs.Closing.{closingOf}
+use Rattle.money.specs.Closing.{maybeClosing}
 use Rattle.money.specs.declared.amount.Amount.{Amount}
 use Rattle.money.specs.declared.amount.MaybeAmount.{MaybeAmount}
 use Rattle.money.specs.declared.amount.MaybeAmount.the-variants as amount
@@ -49,7 +49,7 @@ module _ (unpaid tabular factors : List ℕ) (s k : ℕ) (given : ReserveLists u
   factors-long : length (take (length unpaid) factors) ≡ length unpaid
   factors-long = omega (arith, length-take (length unpaid) factors, given .enough)
 
-  pub end : (r : MaybeClosing) → r ≡ closingOf s → length unpaid ≤ k → r ≡ closingIn unpaid tabular factors
+  pub end : (r : MaybeClosing) → r ≡ maybeClosing s → length unpaid ≤ k → r ≡ closingIn unpaid tabular factors
   unfolding closingIn
   end r er le =
       let total : s ≡ closingAt factors (statedRows unpaid tabular) = (let t = rw (drop-of-length-le unpaid le) at (so .rest) in omega arith) in

@@ -10,7 +10,7 @@ use Rattle.model.specs.Basics.{all}
 use Rattle.model.specs.Book.{Line}
 use Rattle.model.specs.Call.{closeYear}
 use Rattle.model.specs.Kind.{isYear, isAmount, isPaid}
-use Rattle.model.specs.Letter.{ages}
+use Rattle.model.specs.Letter.{covered, ages}
 use Rattle.model.specs.Question.{hasLengths, isWithinLimits}
 use Rattle.model.specs.Row.{rowsOf}
 use Rattle.model.specs.YearEnd.{paidTotal, closing, loss}
@@ -38,13 +38,14 @@ module _ (letter : ℕ) (paid : List ℤ) (unpaid tabular : List ℕ) where
         rw (closing-is letter paid unpaid tabular lengths factors)
         (closing-small letter paid unpaid tabular lengths (three (all isPaid paid) (all isAmount unpaid) (all isAmount tabular) limits .1) factors)
 
-    pub year-end-of-line : (line : Line) (year opening : ℕ) → opening ≤ 110000000000 → RowFactors letter line year factors (suc (ages letter)) →
+    pub year-end-of-line : (line : Line) (year opening : ℕ) → covered letter ≡ true → opening ≤ 110000000000 → RowFactors letter line year factors (suc (ages letter)) →
         let rows = rowsOf paid unpaid tabular in
         yearEnd letter paid unpaid tabular factors opening
         ≡ record { verdict = Fine; paid = paidTotal rows; closing = closing letter line year rows; loss = loss (paidTotal rows) (closing letter line year rows) opening }
     unfolding yearEnd
-    year-end-of-line line year opening le f =
+    year-end-of-line line year opening c le f =
         rw (
+          c,
           lengths,
           limits,
           length-is letter 0 paid unpaid tabular lengths .1,

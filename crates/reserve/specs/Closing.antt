@@ -9,8 +9,8 @@ use Rattle.model.specs.Kind.{isAmount}
 use Rattle.model.specs.Published.{published}
 use Rattle.model.specs.Row.{Row, discounted, stated}
 use Rattle.kinds.specs.Factor.{isFactor}
-use Rattle.money.specs.Amount.{amountOf}
-use Rattle.money.specs.Closing.{closingOf}
+use Rattle.money.specs.Amount.{maybeAmount}
+use Rattle.money.specs.Closing.{maybeClosing}
 use Rattle.money.specs.declared.amount.MaybeAmount.{MaybeAmount}
 use Rattle.money.specs.declared.amount.MaybeAmount.the-variants as amount
 use Rattle.money.specs.declared.closing.MaybeClosing.{MaybeClosing}
@@ -32,9 +32,9 @@ areFactors unpaid factors = all isFactor (take (length unpaid) factors)
 -- a discounted row, where its numbers are within their limits
 abbrev pub rowOf : ℕ → ℕ → ℕ → MaybeAmount
 rowOf unpaid tabular kept =
-    if isAmount unpaid && isAmount tabular && isFactor kept then amountOf (discounted (stated unpaid tabular) (published kept)) else amount.Outside
+    if isAmount unpaid && isAmount tabular && isFactor kept then maybeAmount (discounted (stated unpaid tabular) (published kept)) else amount.Outside
 
 -- the closing, where the numbers of the rows are within their limits
 unfoldable pub closingIn : List ℕ → List ℕ → List ℕ → MaybeClosing
 closingIn unpaid tabular factors =
-    if all isAmount unpaid && all isAmount tabular && areFactors unpaid factors then closingOf (closingAt factors (statedRows unpaid tabular)) else closing.Outside
+    if all isAmount unpaid && all isAmount tabular && areFactors unpaid factors then maybeClosing (closingAt factors (statedRows unpaid tabular)) else closing.Outside

@@ -8,6 +8,7 @@ use lib.IntN.{ℤ, pos}
 use Rattle.model.specs.Basics.{all}
 use Rattle.model.specs.Call.{closeYear}
 use Rattle.model.specs.Kind.{isAmount, isPaid}
+use Rattle.model.specs.Letter.{covered}
 use Rattle.model.specs.Question.{hasLengths, firstNo}
 use Rattle.model.specs.Row.{Row, rowsOf}
 use Rattle.model.specs.YearEnd.{paidTotal, loss}
@@ -44,6 +45,11 @@ endBy none rows factors opening =
     }
 endBy (some question) rows factors opening = refused (refusalOf question)
 
+unfoldable pub rowsEnd : ℕ → List ℤ → List ℕ → List ℕ → List ℕ → ℕ → YearEnd
+rowsEnd letter paid unpaid tabular factors opening =
+    endBy (firstNo (questions letter paid unpaid tabular factors opening)) (rowsOf paid unpaid tabular) factors opening
+
+-- and question 3
 unfoldable pub yearEnd : ℕ → List ℤ → List ℕ → List ℕ → List ℕ → ℕ → YearEnd
 yearEnd letter paid unpaid tabular factors opening =
-    endBy (firstNo (questions letter paid unpaid tabular factors opening)) (rowsOf paid unpaid tabular) factors opening
+    endBy (firstNo ((3, covered letter) ∷ questions letter paid unpaid tabular factors opening)) (rowsOf paid unpaid tabular) factors opening

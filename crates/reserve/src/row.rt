@@ -3,7 +3,6 @@ use factor::published::published;
 use kinds::factor::Factor;
 use money::amount::Amount;
 ghost use mathlib.Core.Path.{_≡_};
-ghost use Prim.Native.Nat.{_+_};
 ghost use lib.Dec.{ltb};
 ghost use Rattle.model.specs.Published.{published};
 ghost use Rattle.model.specs.Row.{gross, discounted, stated};
@@ -12,7 +11,7 @@ ghost use Rattle.kinds.specs.Factor.{factorNumber};
 
 // "Gross is unpaid plus tabular."
 pub fn gross(unpaid: Amount, tabular: Amount) -> u64
-    ensures { λ r. ⌜ r ≡ amountNumber unpaid + amountNumber tabular ⌝ }
+    ensures { λ r. ⌜ r ≡ gross (stated (amountNumber unpaid) (amountNumber tabular)) ⌝ }
 {
     unpaid.number() + tabular.number()
 }

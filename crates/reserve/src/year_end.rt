@@ -3,13 +3,14 @@ use crate::closing::closing;
 use crate::loss::loss;
 use crate::paid_total::paid_total;
 use crate::questions::has_lengths;
+use letters::letter::is_covered;
 use money::closing::Closing;
 use money::closing::MaybeClosing;
 use money::paid::Paid;
 use refusal::Refusal;
 use refusal::Verdict;
 ghost use mathlib.Core.Path.{_≡_};
-ghost use Rattle.reserve.specs.YearEnd.{yearEnd, refused};
+ghost use Rattle.reserve.specs.YearEnd.{yearEnd, rowsEnd, refused};
 
 // A year end: its verdict, and its figures, which are zeros beside a refusal.
 pub struct YearEnd {
@@ -29,6 +30,23 @@ pub fn year_end(
     opening: u64,
 ) -> YearEnd
     ensures { λ r. ⌜ r ≡ yearEnd letter (now (paid .entry)) (now (unpaid .entry)) (now (tabular .entry)) (now (factors .entry)) opening ⌝ }
+{
+    if is_covered(letter) {
+        return end_rows(letter, paid, unpaid, tabular, factors, opening);
+    }
+    refused(Refusal::UncoveredLetter)
+}
+
+// Questions 4 and 6, and the figures.
+fn end_rows(
+    letter: u8,
+    paid: &[i64],
+    unpaid: &[u64],
+    tabular: &[u64],
+    factors: &[u64; 11],
+    opening: u64,
+) -> YearEnd
+    ensures { λ r. ⌜ r ≡ rowsEnd letter (now (paid .entry)) (now (unpaid .entry)) (now (tabular .entry)) (now (factors .entry)) opening ⌝ }
 {
     if has_lengths(letter, paid, unpaid, tabular) {
         if Paid::all(paid) {

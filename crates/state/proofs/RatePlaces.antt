@@ -15,7 +15,7 @@ use mir.Val.{Fits}
 use Rattle.model.specs.Basics.{if_then_else_, put}
 use Rattle.model.specs.Kind.{isYear}
 use Rattle.model.proofs.Lists.{and-left, and-right}
-use Rattle.kinds.specs.Rate.{rateOf, rateNumber}
+use Rattle.kinds.specs.Rate.{maybeRate, rateNumber}
 use Rattle.kinds.specs.declared.rate.Rate.{Rate}
 use Rattle.kinds.specs.declared.rate.MaybeRate.{MaybeRate}
 use Rattle.kinds.specs.declared.rate.MaybeRate.the-variants.{Within, Outside}
@@ -39,7 +39,7 @@ module _ (places : List ℕ) (year : ℕ) (t : Bool) (et : t ≡ isYear year) wh
   unfolding ratesOf
   no-year e = rw (← et, e)
 
-  module _ (e : t ≡ true) (x : MaybeRate) (ex : x ≡ rateOf (getD places (year - 1987) 0)) where
+  module _ (e : t ≡ true) (x : MaybeRate) (ex : x ≡ maybeRate (getD places (year - 1987) 0)) where
     abbrev n : ℕ
     n = getD places (year - 1987) 0
 

@@ -69,17 +69,10 @@ fn listed(line: &Line) -> Option<(String, String)> {
     Some((line.section.clone(), codes(&cell).first()?.to_string()))
 }
 
-/// The labels of a row are edits, two at least, or stored runs.
+/// The labels of a row are edits, two at least.
 fn wrong_labels(line: &Line) -> Vec<String> {
     let cell = line.cell("wrong answers").unwrap_or_default();
     let labels = codes(&cell);
-    if cell.starts_with("stored runs: ") {
-        let stdout = |run: &str| tree::root().join(format!("crates/{run}/stdout"));
-        let missing = labels.iter().filter(|run| !stdout(run).is_file());
-        return missing
-            .map(|run| format!("{run} has no stored run"))
-            .collect();
-    }
     let few = Some("fewer than two edits".to_string()).filter(|_| labels.len() < 2);
     let missing = labels
         .iter()

@@ -108,7 +108,7 @@ fn line_declares(line: &str, name: &str) -> bool {
     ends && (is_typed || is_variant || !["", "pub"].contains(&keyword))
 }
 
-/// Does the file declare the name? Of `Rate::new` or `Runs.book` it declares
+/// Does the file declare the name? Of `Rate::new` or `Leaves.later` it declares
 /// each part, of `Holds h b` one.
 pub fn declares(path: &Path, name: &str) -> bool {
     let text = read(path);

@@ -4,7 +4,7 @@ use mathlib.Core.Path.{_≡_, sym}
 use Prim.Native.Nat.{ℕ}
 use borrow.Author.Needs.{needs}
 use Rattle.model.specs.Kind.{isRate}
-use Rattle.kinds.specs.Rate.{rateOf}
+use Rattle.kinds.specs.Rate.{maybeRate}
 use Rattle.kinds.specs.declared.rate.Rate.{Rate}
 use Rattle.kinds.specs.declared.rate.MaybeRate.{MaybeRate}
 use Rattle.kinds.specs.declared.rate.MaybeRate.the-variants.{Within, Outside}
@@ -12,7 +12,7 @@ use Rattle.kinds.proofs.Within.{rate-within, rate-outside}
 use Rattle.kinds.proofs.rate.is_rate.Statement.{statement}
 use Rattle.kinds.proofs.rate.is_rate.Tie as tie
 
-module _ (n : ℕ) (x : MaybeRate) (ex : x ≡ rateOf n) where
+module _ (n : ℕ) (x : MaybeRate) (ex : x ≡ maybeRate n) where
   within : (v : Rate) → x ≡ Within v → true ≡ isRate n
   within v e = sym (rate-within n x ex v e .0)
 

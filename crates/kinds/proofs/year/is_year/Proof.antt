@@ -4,7 +4,7 @@ use mathlib.Core.Path.{_≡_, sym}
 use Prim.Native.Nat.{ℕ}
 use borrow.Author.Needs.{needs}
 use Rattle.model.specs.Kind.{isYear}
-use Rattle.kinds.specs.Year.{yearOf}
+use Rattle.kinds.specs.Year.{maybeYear}
 use Rattle.kinds.specs.declared.year.Year.{Year}
 use Rattle.kinds.specs.declared.year.MaybeYear.{MaybeYear}
 use Rattle.kinds.specs.declared.year.MaybeYear.the-variants.{Within, Outside}
@@ -12,7 +12,7 @@ use Rattle.kinds.proofs.Within.{year-within, year-outside}
 use Rattle.kinds.proofs.year.is_year.Statement.{statement}
 use Rattle.kinds.proofs.year.is_year.Tie as tie
 
-module _ (n : ℕ) (x : MaybeYear) (ex : x ≡ yearOf n) where
+module _ (n : ℕ) (x : MaybeYear) (ex : x ≡ maybeYear n) where
   within : (v : Year) → x ≡ Within v → true ≡ isYear n
   within v e = sym (year-within n x ex v e)
 

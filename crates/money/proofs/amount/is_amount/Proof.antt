@@ -4,7 +4,7 @@ use mathlib.Core.Path.{_≡_, sym}
 use Prim.Native.Nat.{ℕ}
 use borrow.Author.Needs.{needs}
 use Rattle.model.specs.Kind.{isAmount}
-use Rattle.money.specs.Amount.{amountOf}
+use Rattle.money.specs.Amount.{maybeAmount}
 use Rattle.money.specs.declared.amount.Amount.{Amount}
 use Rattle.money.specs.declared.amount.MaybeAmount.{MaybeAmount}
 use Rattle.money.specs.declared.amount.MaybeAmount.the-variants.{Within, Outside}
@@ -12,7 +12,7 @@ use Rattle.money.proofs.Within.{amount-within, amount-outside}
 use Rattle.money.proofs.amount.is_amount.Statement.{statement}
 use Rattle.money.proofs.amount.is_amount.Tie as tie
 
-module _ (n : ℕ) (x : MaybeAmount) (ex : x ≡ amountOf n) where
+module _ (n : ℕ) (x : MaybeAmount) (ex : x ≡ maybeAmount n) where
   within : (v : Amount) → x ≡ Within v → true ≡ isAmount n
   within v e = sym (amount-within n x ex v e .0)
 

@@ -4,7 +4,7 @@ use mathlib.Core.Path.{_≡_, sym}
 use Prim.Native.Nat.{ℕ}
 use borrow.Author.Needs.{needs}
 use Rattle.model.specs.Kind.{isOpening}
-use Rattle.money.specs.Opening.{openingOf}
+use Rattle.money.specs.Opening.{maybeOpening}
 use Rattle.money.specs.declared.opening.Opening.{Opening}
 use Rattle.money.specs.declared.opening.MaybeOpening.{MaybeOpening}
 use Rattle.money.specs.declared.opening.MaybeOpening.the-variants.{Within, Outside}
@@ -12,7 +12,7 @@ use Rattle.money.proofs.Within.{opening-within, opening-outside}
 use Rattle.money.proofs.opening.is_opening.Statement.{statement}
 use Rattle.money.proofs.opening.is_opening.Tie as tie
 
-module _ (n : ℕ) (x : MaybeOpening) (ex : x ≡ openingOf n) where
+module _ (n : ℕ) (x : MaybeOpening) (ex : x ≡ maybeOpening n) where
   within : (v : Opening) → x ≡ Within v → true ≡ isOpening n
   within v e = sym (opening-within n x ex v e .0)
 

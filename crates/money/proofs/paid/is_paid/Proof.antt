@@ -7,7 +7,7 @@ use mir.Syntax.{w64}
 use mir.Val.{SFits, toZ, ofZ}
 use mir.Facts.{toZ-ofZ}
 use Rattle.model.specs.Kind.{isPaid}
-use Rattle.money.specs.Paid.{paidOf}
+use Rattle.money.specs.Paid.{maybePaid}
 use Rattle.money.specs.declared.paid.Paid.{Paid}
 use Rattle.money.specs.declared.paid.MaybePaid.{MaybePaid}
 use Rattle.money.specs.declared.paid.MaybePaid.the-variants.{Within, Outside}
@@ -16,8 +16,8 @@ use Rattle.money.proofs.paid.is_paid.Statement.{statement}
 use Rattle.money.proofs.paid.is_paid.Tie as tie
 
 -- the number is read from its bits
-module _ (v : ℤ) (fits : SFits w64 v) (x : MaybePaid) (ex : x ≡ paidOf (toZ w64 (ofZ w64 v))) where
-  read : x ≡ paidOf v
+module _ (v : ℤ) (fits : SFits w64 v) (x : MaybePaid) (ex : x ≡ maybePaid (toZ w64 (ofZ w64 v))) where
+  read : x ≡ maybePaid v
   read = rw (toZ-ofZ fits) at ex
 
   within : (a : Paid) → x ≡ Within a → true ≡ isPaid v
