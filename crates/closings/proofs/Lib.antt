@@ -1,3 +1,4 @@
+pub mod OpeningLimits
 pub mod RowLoops
 pub mod RowPatterns
 pub mod Turns

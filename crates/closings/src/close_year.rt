@@ -1,4 +1,5 @@
 // "YEAR, letter, year, then paid, unpaid, tabular for each age, prior row last"
+use crate::opening::opening_of;
 use crate::rows::have_patterns;
 use crate::rows::row_factors;
 use kinds::year::is_year;
@@ -14,8 +15,6 @@ use reserve::year_end::year_end;
 use state::book::Book;
 use state::book::Line;
 use state::book::Patterns;
-use state::lines::declared_opening;
-use state::lines::last_closing;
 use state::lines::line_of;
 use state::lines::with_line;
 use state::patterns::kept_count;
@@ -27,7 +26,7 @@ ghost use Rattle.model.specs.Step.{asNumbers};
 ghost use Rattle.state.specs.View.{view};
 ghost use Rattle.ledger.specs.Does.{Does, Settled};
 ghost use Rattle.state.specs.Lines.{withClosingOf};
-ghost use Rattle.closings.specs.CloseYear.{isDue, openingOf, Turned, Passed};
+ghost use Rattle.closings.specs.CloseYear.{isDue, Turned, Passed};
 
 // Questions 3, 4 and 6, and on.
 pub fn close_year(
@@ -146,16 +145,6 @@ fn end_year(
         },
         [0; 11],
     )
-}
-
-// "Opening is the last closing, or the declared opening."
-fn opening_of(line: Line) -> u64
-    ensures { λ r. ⌜ r ≡ openingOf line ⌝ }
-{
-    if is_year(line.closed) {
-        return last_closing(line);
-    }
-    declared_opening(line)
 }
 
 // The line with one more year closed.

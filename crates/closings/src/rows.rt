@@ -1,6 +1,6 @@
 // The patterns that the rows of a year take.
 use letters::letter::ages;
-use reserve::row::has_gross;
+use reserve::questions::has_gross;
 use state::book::Line;
 use state::book::Patterns;
 use state::patterns::factor_in;

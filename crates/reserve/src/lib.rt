@@ -3,5 +3,5 @@ mod closing;
 mod loss;
 mod paid_total;
 pub mod questions;
-pub mod row;
+mod row;
 pub mod year_end;

@@ -3,7 +3,6 @@ use factor::published::published;
 use kinds::factor::Factor;
 use money::amount::Amount;
 ghost use mathlib.Core.Path.{_≡_};
-ghost use lib.Dec.{ltb};
 ghost use Rattle.model.specs.Published.{published};
 ghost use Rattle.model.specs.Row.{gross, discounted, stated};
 ghost use Rattle.money.specs.Amount.{amountNumber};
@@ -14,13 +13,6 @@ pub fn gross(unpaid: Amount, tabular: Amount) -> u64
     ensures { λ r. ⌜ r ≡ gross (stated (amountNumber unpaid) (amountNumber tabular)) ⌝ }
 {
     unpaid.number() + tabular.number()
-}
-
-// "gross above 0": one of the two numbers is.
-pub fn has_gross(unpaid: u64, tabular: u64) -> bool
-    ensures { λ r. ⌜ r ≡ ltb 0 (gross (stated unpaid tabular)) ⌝ }
-{
-    unpaid > 0 || tabular > 0
 }
 
 // "Discounted is the smaller of unpaid and (gross × published + 500,000) / 1,000,000 rounded down."

@@ -9,15 +9,6 @@ use Rattle.kinds.specs.declared.factor.Factor.{Factor}
 use Rattle.kinds.specs.declared.factor.MaybeFactor.{MaybeFactor}
 use Rattle.kinds.specs.declared.factor.MaybeFactor.the-variants as factor
 use Rattle.kinds.proofs.Within.{factor-within, factor-outside}
-use Rattle.money.specs.Closing.{maybeClosing, closingNumber}
-use Rattle.money.specs.declared.closing.Closing.{Closing}
-use Rattle.money.specs.declared.closing.MaybeClosing.{MaybeClosing}
-use Rattle.money.specs.declared.closing.MaybeClosing.the-variants as closing
-use Rattle.money.specs.Opening.{maybeOpening, openingNumber}
-use Rattle.money.specs.declared.opening.Opening.{Opening}
-use Rattle.money.specs.declared.opening.MaybeOpening.{MaybeOpening}
-use Rattle.money.specs.declared.opening.MaybeOpening.the-variants as opening
-use Rattle.money.proofs.Within.{opening-within, opening-outside, closing-within, closing-outside}
 
 module _ (n : ℕ) (x : MaybeFactor) (ex : x ≡ maybeFactor n) where
   pub factor-read : (v : Factor) → x ≡ factor.Within v → (r : ℕ) → r ≡ factorNumber v → r ≡ min n 10000000000
@@ -25,17 +16,3 @@ module _ (n : ℕ) (x : MaybeFactor) (ex : x ≡ maybeFactor n) where
 
   pub factor-past : x ≡ factor.Outside → 10000000000 ≡ min n 10000000000
   factor-past e = omega (arith, leb-false n 10000000000 (factor-outside n x ex e))
-
-module _ (n : ℕ) (x : MaybeOpening) (ex : x ≡ maybeOpening n) where
-  pub opening-read : (v : Opening) → x ≡ opening.Within v → (r : ℕ) → r ≡ openingNumber v → r ≡ min n 100000000000
-  opening-read v e r er = let t = opening-within n x ex v e in omega (arith, t .1, leb-true n 100000000000 (t .0))
-
-  pub opening-past : x ≡ opening.Outside → 100000000000 ≡ min n 100000000000
-  opening-past e = omega (arith, leb-false n 100000000000 (opening-outside n x ex e))
-
-module _ (n : ℕ) (x : MaybeClosing) (ex : x ≡ maybeClosing n) where
-  pub closing-read : (v : Closing) → x ≡ closing.Within v → (r : ℕ) → r ≡ closingNumber v → r ≡ min n 110000000000
-  closing-read v e r er = let t = closing-within n x ex v e in omega (arith, t .1, leb-true n 110000000000 (t .0))
-
-  pub closing-past : x ≡ closing.Outside → 110000000000 ≡ min n 110000000000
-  closing-past e = omega (arith, leb-false n 110000000000 (closing-outside n x ex e))

@@ -3,12 +3,8 @@ use crate::book::Book;
 use crate::book::Line;
 use crate::cells::place_of;
 use letters::letter::is_covered;
-use money::closing::Closing;
-use money::closing::MaybeClosing;
-use money::opening::MaybeOpening;
-use money::opening::Opening;
 ghost use mathlib.Core.Path.{_≡_};
-ghost use Rattle.state.specs.Lines.{lineAt, declaredOpening, lastClosing, withLineOf};
+ghost use Rattle.state.specs.Lines.{lineAt, withLineOf};
 
 // A letter's line. A letter that is not covered has an undeclared one.
 pub fn line_of(book: Book, letter: u8) -> Line
@@ -25,26 +21,6 @@ pub fn line_of(book: Book, letter: u8) -> Line
         closing: 0,
         last: 0,
         kept: 0,
-    }
-}
-
-// "the declared opening": past its limit it is read as the limit.
-pub fn declared_opening(line: Line) -> u64
-    ensures { λ r. ⌜ r ≡ declaredOpening line ⌝ }
-{
-    match Opening::new(line.opening) {
-        MaybeOpening::Within(opening) => opening.number(),
-        MaybeOpening::Outside => Opening::MOST,
-    }
-}
-
-// "the last closing": past its limit it is read as the limit.
-pub fn last_closing(line: Line) -> u64
-    ensures { λ r. ⌜ r ≡ lastClosing line ⌝ }
-{
-    match Closing::new(line.closing) {
-        MaybeClosing::Within(closing) => closing.number(),
-        MaybeClosing::Outside => Closing::MOST,
     }
 }
 

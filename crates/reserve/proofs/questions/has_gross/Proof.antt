@@ -1,7 +1,7 @@
--- `reserve::row::has_gross` meets its contract. Assumes nothing.
+-- `reserve::questions::has_gross` meets its contract. Assumes nothing.
 use Rattle.reserve.proofs.Values.{unpaid-above, nothing-unpaid}
-use Rattle.reserve.proofs.row.has_gross.Statement.{statement}
-use Rattle.reserve.proofs.row.has_gross.Tie as tie
+use Rattle.reserve.proofs.questions.has_gross.Statement.{statement}
+use Rattle.reserve.proofs.questions.has_gross.Tie as tie
 
 returns : tie.Need-returns
 returns c = search unpaid-above

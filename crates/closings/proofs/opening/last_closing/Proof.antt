@@ -1,8 +1,8 @@
--- `state::lines::last_closing` meets its contract. Assumes nothing.
+-- `closings::opening::last_closing` meets its contract. Assumes nothing.
 use borrow.Author.Needs.{needs}
-use Rattle.state.proofs.CellLimits.{closing-read, closing-past}
-use Rattle.state.proofs.lines.last_closing.Statement.{statement}
-use Rattle.state.proofs.lines.last_closing.Tie as tie
+use Rattle.closings.proofs.OpeningLimits.{closing-read, closing-past}
+use Rattle.closings.proofs.opening.last_closing.Statement.{statement}
+use Rattle.closings.proofs.opening.last_closing.Tie as tie
 
 new-requires : tie.Need-new-requires
 new-requires c κs = search needs

@@ -1,8 +1,8 @@
--- `state::lines::declared_opening` meets its contract. Assumes nothing.
+-- `closings::opening::declared_opening` meets its contract. Assumes nothing.
 use borrow.Author.Needs.{needs}
-use Rattle.state.proofs.CellLimits.{opening-read, opening-past}
-use Rattle.state.proofs.lines.declared_opening.Statement.{statement}
-use Rattle.state.proofs.lines.declared_opening.Tie as tie
+use Rattle.closings.proofs.OpeningLimits.{opening-read, opening-past}
+use Rattle.closings.proofs.opening.declared_opening.Statement.{statement}
+use Rattle.closings.proofs.opening.declared_opening.Tie as tie
 
 new-requires : tie.Need-new-requires
 new-requires c κs = search needs

@@ -1,8 +1,8 @@
--- `closings::close_year::opening_of` meets its contract. Assumes nothing.
+-- `closings::opening::opening_of` meets its contract. Assumes nothing.
 use borrow.Author.Needs.{needs}
 use mathlib.Core.Path.{sym, _∙_}
-use Rattle.closings.proofs.close_year.opening_of.Statement.{statement}
-use Rattle.closings.proofs.close_year.opening_of.Tie as tie
+use Rattle.closings.proofs.opening.opening_of.Statement.{statement}
+use Rattle.closings.proofs.opening.opening_of.Tie as tie
 
 is-year-requires : tie.Need-is-year-requires
 is-year-requires c κs = search needs

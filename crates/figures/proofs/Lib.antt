@@ -1,3 +1,0 @@
-pub mod FactorsRead
-pub mod FiguresShown
-pub mod PatternFound
