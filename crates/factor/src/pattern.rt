@@ -1,7 +1,7 @@
 // A pattern's kept factors and composite, from the lists of a pattern record.
 use crate::composite::mean_factor;
 use crate::walk::walk;
-use half_year::half_year;
+use half_year::half_year_with_hint;
 use kinds::rate::Rate;
 use letters::letter;
 use payments::schedule::schedule_of;
@@ -25,8 +25,9 @@ pub struct Pattern {
     pub composite: u64,
 }
 
-// The pattern that lists of paid and incurred by age give for a line at a rate.
-pub fn discount(letter: u8, rate: Rate, paid: &[u64], incurred: &[u64]) -> Pattern
+// The pattern that lists of paid and incurred by age give for a line at a rate. The hint, any number, spares the table of half-year factors where it is
+// the rate's.
+pub fn discount(letter: u8, rate: Rate, hint: u64, paid: &[u64], incurred: &[u64]) -> Pattern
     ensures { λ r. ⌜ r ≡ patternOf letter (rateNumber rate) (now (paid .entry)) (now (incurred .entry)) ⌝ }
 {
     let schedule = schedule_of(letter, paid, incurred);
@@ -34,7 +35,7 @@ pub fn discount(letter: u8, rate: Rate, paid: &[u64], incurred: &[u64]) -> Patte
     match verdict {
         Verdict::Fine => {
             let pay = schedule.pay;
-            keep(letter, rate, pay)
+            keep(letter, rate, hint, pay)
         }
         Verdict::Refused(refusal) => refuse(refusal),
     }
@@ -50,22 +51,22 @@ fn refuse(refusal: Refusal) -> Pattern
     }
 }
 
-fn keep(letter: u8, rate: Rate, pay: [u64; 16]) -> Pattern
+fn keep(letter: u8, rate: Rate, hint: u64, pay: [u64; 16]) -> Pattern
     requires { ⌜ unpaid pay ≤ 200000000 ⌝ }
     ensures { λ r. ⌜ r ≡ keptOf letter (rateNumber rate) (take (allAges letter) pay) ⌝ }
 {
     if letter::is_ten_year(letter) {
-        return keep_ten_year(letter, rate, pay);
+        return keep_ten_year(letter, rate, hint, pay);
     }
-    keep_two_year(letter, rate, pay)
+    keep_two_year(letter, rate, hint, pay)
 }
 
 // The letter is there for the contract alone.
-fn keep_ten_year(letter: u8, rate: Rate, pay: [u64; 16]) -> Pattern
+fn keep_ten_year(letter: u8, rate: Rate, hint: u64, pay: [u64; 16]) -> Pattern
     requires { ⌜ (tenYear letter ≡ true) × (unpaid pay ≤ 200000000) ⌝ }
     ensures { λ r. ⌜ r ≡ keptOf letter (rateNumber rate) pay ⌝ }
 {
-    let half = half_year(rate);
+    let half = half_year_with_hint(rate, hint);
     let number = rate.number();
     let mut factors = [0u64; 16];
     walk(&pay, 0, half, number, &mut factors);
@@ -76,11 +77,11 @@ fn keep_ten_year(letter: u8, rate: Rate, pay: [u64; 16]) -> Pattern
     }
 }
 
-fn keep_two_year(letter: u8, rate: Rate, pay: [u64; 16]) -> Pattern
+fn keep_two_year(letter: u8, rate: Rate, hint: u64, pay: [u64; 16]) -> Pattern
     requires { ⌜ (tenYear letter ≡ false) × (unpaid pay ≤ 200000000) ⌝ }
     ensures { λ r. ⌜ r ≡ keptOf letter (rateNumber rate) (take 4 pay) ⌝ }
 {
-    let half = half_year(rate);
+    let half = half_year_with_hint(rate, hint);
     let number = rate.number();
     let mut factors = [0u64; 16];
     walk(&pay[..4], 0, half, number, &mut factors[..4]);

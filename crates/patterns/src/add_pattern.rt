@@ -131,7 +131,7 @@ fn ask_ratios(
     requires { ⌜ Turned book line letter year (rateNumber rate) (now paid) (now incurred) ⌝ }
     ensures { λ r. ⌜ Settled (view book (now (patterns .entry))) (addPattern letter year (now (paid .entry)) (now (incurred .entry))) (now (patterns .entry)) r (now (patterns .exit)) ⌝ }
 {
-    let pattern = discount(letter, rate, paid, incurred);
+    let pattern = discount(letter, rate, 0, paid, incurred);
     let verdict = pattern.verdict;
     match verdict {
         Verdict::Fine => {

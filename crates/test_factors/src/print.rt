@@ -1,4 +1,5 @@
 // A line of output: the rate, the verdict's question (0: fine), the kept factors and the composite, parted by spaces. A number that is no rate has its question alone.
+use half_year::half_year;
 use kinds::rate::MaybeRate;
 use kinds::rate::Rate;
 use libc::STDOUT_FILENO;
@@ -14,8 +15,9 @@ pub fn show(letter: u8, rate: u64, paid: &[u64], incurred: &[u64]) {
     io::write_all(STDOUT_FILENO, b"\n");
 }
 
+// The half-year factor itself is the hint.
 fn show_pattern(letter: u8, rate: Rate, paid: &[u64], incurred: &[u64]) {
-    let pattern = factor::pattern::discount(letter, rate, paid, incurred);
+    let pattern = factor::pattern::discount(letter, rate, half_year(rate), paid, incurred);
     let verdict = pattern.verdict;
     field(question(verdict));
     let factors = pattern.factors;

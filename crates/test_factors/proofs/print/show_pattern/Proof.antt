@@ -10,6 +10,9 @@ Inv-loop letter paid incurred pattern factors i₀ i = i ≤ 10
 abbrev μ-loop : tie.MeasureT-loop
 μ-loop letter paid incurred pattern factors i₀ i = 10 - i
 
+half-year-requires : tie.Need-half-year-requires Inv-loop μ-loop
+half-year-requires c κs = search needs
+
 discount-requires : tie.Need-discount-requires Inv-loop μ-loop
 discount-requires c κs = search needs
 
@@ -52,6 +55,7 @@ show-pattern-spec =
     (tie.spec
     Inv-loop
     μ-loop
+    half-year-requires
     discount-requires
     question-requires
     field-requires
