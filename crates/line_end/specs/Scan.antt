@@ -1,26 +1,15 @@
 -- The next byte 10, and how far the search for it is.
 -- Assumes nothing: these are definitions.
-use mathlib.Core.List.{List, [], _∷_}
+use mathlib.Core.List.{List}
 use mathlib.Core.Path.{_≡_}
 use Prim.Native.Nat.{ℕ, _+_, _-_, _≤_}
-use lib.Dec.{eqb}
 use lib.ListN.{length, drop}
 use Rattle.bytes.specs.Bytes.{indexOf}
-use Rattle.model.specs.Basics.{if_then_else_}
 
 -- the next byte 10 from place `start` on is at `end`, or there is none and `end` is the input's end
 pub record EndsAt (input : List ℕ) (start end : ℕ) : Type 0 where
   pub place : end ≡ start + indexOf 10 (drop start input)
   pub within : end ≤ start + (length input - start)
-
--- 1 for a byte 10, and 0 for any other
-abbrev pub endOf : ℕ → ℕ
-endOf b = if eqb b 10 then 1 else 0
-
--- how many bytes are 10
-unfoldable pub endsIn : List ℕ → ℕ
-endsIn [] = 0
-endsIn (b ∷ bytes) = endOf b + endsIn bytes
 
 -- no byte from place `start` to before place `at` is 10
 pub record Passed (input : List ℕ) (start at : ℕ) : Type 0 where

@@ -2,7 +2,8 @@
 ghost use mathlib.Core.Path.{_≡_};
 ghost use Prim.Native.Nat.{_≤_};
 ghost use lib.ListN.{length};
-ghost use Rattle.line_end.specs.Scan.{EndsAt, endOf, endsIn, Passed};
+ghost use Rattle.model.specs.Basics.{among};
+ghost use Rattle.line_end.specs.Scan.{EndsAt, Passed};
 
 const BLOCK: usize = 16;
 
@@ -31,7 +32,7 @@ fn skip_blocks(input: &[u8], start: usize) -> usize
     let mut at = start;
     while BLOCK <= input.len() - at {
         let end = at + BLOCK;
-        if count_ends(&input[at..end]) > 0 {
+        if has_end(&input[at..end]) {
             return at;
         }
         at = end;
@@ -39,26 +40,16 @@ fn skip_blocks(input: &[u8], start: usize) -> usize
     at
 }
 
-// How many bytes of a block end a line.
-fn count_ends(block: &[u8]) -> u8
+// Does a byte of a block end a line?
+fn has_end(block: &[u8]) -> bool
     requires { ⌜ length (now block) ≡ 16 ⌝ }
-    ensures { λ r. ⌜ r ≡ endsIn (now (block .entry)) ⌝ }
+    ensures { λ r. ⌜ r ≡ among 10 (now (block .entry)) ⌝ }
 {
-    let mut count: u8 = 0;
+    let mut found = false;
     let mut i = 0;
     while i < BLOCK {
-        count += ends(block[i]);
+        found |= block[i] == 10;
         i += 1;
     }
-    count
-}
-
-// 1 for a byte 10, and 0 for any other.
-fn ends(byte: u8) -> u8
-    ensures { λ r. ⌜ (r ≡ endOf byte) × (r ≤ 1) ⌝ }
-{
-    if byte == 10 {
-        return 1;
-    }
-    0
+    found
 }
