@@ -1,2 +1,4 @@
 pub mod Digits
+pub mod FrontDigits
+pub mod Places
 pub mod Signs

@@ -116,6 +116,15 @@ module _ (s : List ℕ) (t : Bool) (et : t ≡ isPlain (field 0 (fields s))) whe
   pub unsigned-none : t ≡ false → (r : Reading) → r ≡ noNumber → Reads false (field 0 (fields s)) r
   unsigned-none t0 r e = none-read false (field 0 (fields s)) r (sym (written-never (field 0 (fields s)) ∙ sym et ∙ t0)) e
 
+-- such a number is read the same whether a minus sign is allowed or not
+unsigned-read : (minusAllowed : Bool) (f : List ℕ) (r : Reading) → hasMinus f ≡ false → Reads false f r → Reads minusAllowed f r
+unsigned-read minusAllowed f r none h =
+    let same : isWritten minusAllowed f ≡ isWritten false f = written-plain minusAllowed f none ∙ sym (written-never f) in
+    record { written = h .written ∙ sym same; sign = h .sign; value = h .value; long = h .long; none = h .none }
+
+pub plain-read : (minusAllowed : Bool) (f : List ℕ) (r : Reading) → isPlain f ≡ true → Reads false f r → Reads minusAllowed f r
+plain-read minusAllowed f r plain h = unsigned-read minusAllowed f r (sym (no-minus-by f (hasMinus f) refl plain)) h
+
 -- the sign of the field at the front is that of the rest
 same-by : (b : ℕ) (bs : List ℕ) (t : Bool) → eqb b 9 ≡ t → hasMinus (before (b ∷ bs)) ≡ hasMinus (b ∷ bs)
 same-by b bs true e = let z : b ≡ 9 = eqb-true b 9 e in rw z
@@ -140,12 +149,6 @@ nonzero n = nonzero-by n (eqb n 0) refl
 module _ (s : List ℕ) (minusAllowed t : Bool) (ef : minusAllowed ≡ true) (et : t ≡ hasMinus s) where
   sign : hasMinus (field 0 (fields s)) ≡ t
   sign = ap hasMinus (first-field s) ∙ same-minus s ∙ sym et
-
-  plus : t ≡ false → (r : Reading) → Reads false (field 0 (fields s)) r → Reads minusAllowed (field 0 (fields s)) r
-  plus t0 r h =
-      let w : isWritten minusAllowed (field 0 (fields s)) ≡ isWritten false (field 0 (fields s)) =
-      written-plain minusAllowed (field 0 (fields s)) (sign ∙ t0) ∙ sym (written-never (field 0 (fields s))) in
-      record { written = h .written ∙ sym w; sign = h .sign; value = h .value; long = h .long; none = h .none }
 
   module _ (t1 : t ≡ true) (n : Reading) (h : Reads false (field 0 (fields (take (length s - 1) (drop 1 s)))) n) where
     part : field 0 (fields (take (length s - 1) (drop 1 s))) ≡ drop 1 (field 0 (fields s))
@@ -197,7 +200,7 @@ module _ (s : List ℕ) (minusAllowed t : Bool) (ef : minusAllowed ≡ true) (et
 
 none-by : (s : List ℕ) (minusAllowed t : Bool) (l : ℕ) → hasMinus s ≡ t → l ≡ (if minusAllowed then (if t then 1 else 0) else 0) → l ≡ 0 → (r : Reading) → Reads false (field 0 (fields s)) r → Reads minusAllowed (field 0 (fields s)) r
 none-by s true true l q e z r h = absurd (omega arith)
-none-by s true false l q e z r h = plus s true false refl (sym q) refl r h
+none-by s true false l q e z r h = unsigned-read true (field 0 (fields s)) r (sign s true false refl (sym q)) h
 none-by s false t l q e z r h = h
 
 -- a number read from after the sign on

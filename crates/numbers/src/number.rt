@@ -1,5 +1,8 @@
 // "A number is digits without leading zeros ("0" alone is right); a minus sign is allowed only before a nonzero paid in YEAR."
 // A number is read in one pass, from the front of the rest of a line to the end of its field.
+use crate::front::ends_at_tab;
+use crate::front::front_digits;
+use crate::front::is_far_from_end;
 ghost use mathlib.Core.Path.{_≡_};
 ghost use mathlib.Core.Bool.{false};
 ghost use Prim.Native.Nat.{_+_, _*_, _-_, _≤_, min};
@@ -106,7 +109,7 @@ fn is_plain(rest: &[u8], count: usize) -> bool
 }
 
 // A field that is not well written, or none.
-pub fn no_number() -> Reading
+fn no_number() -> Reading
     ensures { λ r. ⌜ r ≡ noNumber ⌝ }
 {
     Reading {
@@ -158,7 +161,7 @@ fn sign_length(rest: &[u8], allowed: bool) -> usize
 }
 
 // The number at the front, where `allowed` says whether a minus sign is allowed.
-pub fn signed(rest: &[u8], allowed: bool) -> Reading
+fn signed(rest: &[u8], allowed: bool) -> Reading
     ensures { λ r. ⌜ Reads allowed (field 0 (fields (now (rest .entry)))) r ⌝ }
 {
     let sign = sign_length(rest, allowed);
@@ -177,4 +180,34 @@ pub fn signed(rest: &[u8], allowed: bool) -> Reading
         };
     }
     no_number()
+}
+
+// The number in the field that begins at a place, whatever it is. Past the line's end there is none, so it is not right.
+fn any_number(line: &[u8], at: usize, allowed: bool) -> Reading
+    ensures { λ r. ⌜ Reads allowed (field 0 (fields (drop at (now (line .entry))))) r ⌝ }
+{
+    if at > line.len() {
+        return no_number();
+    }
+    signed(&line[at..], allowed)
+}
+
+// The number in the field that begins at a place, where `allowed` says whether a minus sign is allowed. Most are digits and a tab, far from the line's end.
+pub fn number_from(line: &[u8], at: usize, allowed: bool) -> Reading
+    ensures { λ r. ⌜ Reads allowed (field 0 (fields (drop at (now (line .entry))))) r ⌝ }
+{
+    if is_far_from_end(line, at) {
+        let rest = &line[at..];
+        let found = front_digits(rest);
+        let length = found.length;
+        if ends_at_tab(rest, length, found.stop) {
+            return Reading {
+                right: true,
+                minus: false,
+                size: found.size,
+                length,
+            };
+        }
+    }
+    any_number(line, at, allowed)
 }

@@ -1,37 +1,18 @@
--- The number in the field that begins at a place of a line.
+-- A number that is well written stands within its line.
 -- Assumes nothing.
-use mathlib.Core.Bool.{Bool, true, false, false≢true}
-use mathlib.Core.Path.{_≡_, refl, sym, _∙_}
-use mathlib.Core.List.{List, []}
-use Prim.Native.Nat.{ℕ, _+_, _-_, _≤_, _<_}
-use native.Mathlib.Omega.{arith, by-contra}
-use lib.ListN.{length, take, drop, drop-of-length-le}
+use mathlib.Core.Bool.{Bool, true, false≢true}
+use mathlib.Core.Path.{_≡_, sym, _∙_}
+use mathlib.Core.List.{List}
+use Prim.Native.Nat.{ℕ, _+_, _≤_, _<_}
+use native.Mathlib.Omega.{by-contra}
+use lib.ListN.{length, drop}
 use Rattle.model.specs.Field.{fields, field}
-use Rattle.model.specs.Number.{isWritten}
 use Rattle.field.proofs.Fields.{rest-whole, ends as field-ends}
-use Rattle.numbers.specs.Number.{noNumber, Reads}
-use Rattle.numbers.proofs.Signs.{none-read}
+use Rattle.numbers.specs.Number.{Reads}
 use Rattle.numbers.specs.declared.number.Reading.{Reading}
-
-none-written : (minusAllowed : Bool) → isWritten minusAllowed (field 0 (fields [])) ≡ false
-unfolding fields isWritten
-none-written minusAllowed = refl
-
--- past the line's end no number is well written
-past-written : (s : List ℕ) (at : ℕ) (minusAllowed : Bool) → length s < at → isWritten minusAllowed (field 0 (fields (drop at s))) ≡ false
-past-written s at minusAllowed past =
-    let le : length s ≤ at = omega arith in
-    rw (drop-of-length-le s le) (none-written minusAllowed)
-
-pub past-end : (s : List ℕ) (at : ℕ) (minusAllowed : Bool) → length s < at → (r : Reading) → r ≡ noNumber → Reads minusAllowed (field 0 (fields (drop at s))) r
-past-end s at minusAllowed past r e = none-read minusAllowed (field 0 (fields (drop at s))) r (sym (past-written s at minusAllowed past)) e
-
--- the rest of the line from a place on runs to its end
-pub within : (s : List ℕ) (at : ℕ) (minusAllowed : Bool) (r : Reading) → Reads minusAllowed (field 0 (fields (take (length s - at) (drop at s)))) r → Reads minusAllowed (field 0 (fields (drop at s))) r
-within s at minusAllowed r h = rw (rest-whole s at) at h
+use Rattle.numbers.proofs.Places.{past-written}
 
 module _ (s : List ℕ) (at : ℕ) (minusAllowed : Bool) (r : Reading) (h : Reads minusAllowed (field 0 (fields (drop at s))) r) (e : r .right ≡ true) where
-  -- a number that is well written begins and ends within the line
   pub begins : at ≤ length s
   begins = by-contra at (length s) (λ (past : length s < at). absurd (false≢true (sym (h .written ∙ past-written s at minusAllowed past) ∙ e)))
 

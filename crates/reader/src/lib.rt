@@ -2,8 +2,7 @@
 // The borrow checker covers no function over a struct that holds a slice: `begin`, `number` and `read_number` are proved by hand, and thin.
 // `number` leaves the work to `number_at`, which takes a plain slice and is covered, and every other caller calls `read_number`, whose parameters are plain too.
 use numbers::number::Reading;
-use numbers::number::no_number;
-use numbers::number::signed;
+use numbers::number::number_from;
 ghost use mathlib.Core.Path.{_≡_};
 ghost use lib.ListN.{drop};
 ghost use Rattle.model.specs.Field.{fields, field};
@@ -14,14 +13,11 @@ pub struct Reader<'a> {
     pub at: usize,
 }
 
-// The number in the field that begins at a place, where `allowed` says whether a minus sign is allowed. Past the line's end there is none, so it is not right.
+// The number in the field that begins at a place, where `allowed` says whether a minus sign is allowed.
 pub fn number_at(line: &[u8], at: usize, allowed: bool) -> Reading
     ensures { λ r. ⌜ Reads allowed (field 0 (fields (drop at (now (line .entry))))) r ⌝ }
 {
-    if at > line.len() {
-        return no_number();
-    }
-    signed(&line[at..], allowed)
+    number_from(line, at, allowed)
 }
 
 // The reader of a line at a place.

@@ -1,30 +1,13 @@
 -- `reader::number_at` meets its contract. Assumes nothing.
 use borrow.Author.Needs.{needs}
-use native.Mathlib.Omega.{arith}
-use Rattle.reader.proofs.Places.{past-end, within}
 use Rattle.reader.proofs.number_at.Statement.{statement}
 use Rattle.reader.proofs.number_at.Tie as tie
 
-no-number-requires : tie.Need-no-number-requires
-no-number-requires c κs = search needs
+number-from-requires : tie.Need-number-from-requires
+number-from-requires c κs = search needs
 
 returns : tie.Need-returns
-returns c = search past-end
-
-sub-signed : tie.Need-sub-signed
-sub-signed c = omega arith
-
-part-signed-start : tie.Need-part-signed-start
-part-signed-start c = omega arith
-
-part-signed-end : tie.Need-part-signed-end
-part-signed-end c = omega arith
-
-signed-requires : tie.Need-signed-requires
-signed-requires c κs = search needs
-
-returns-2 : tie.Need-returns-2
-returns-2 c = search within
+returns c = search needs
 
 pub number-at-spec : {M : Type 1} → statement M
-number-at-spec = tie.close (tie.spec no-number-requires returns sub-signed part-signed-start part-signed-end signed-requires returns-2)
+number-at-spec = tie.close (tie.spec number-from-requires returns)
