@@ -1,4 +1,4 @@
--- `reader::number` meets its contract: a walk of its MIR, by hand. The struct is taken apart, and `number_at` is called on the slice and the number. All that the proof knows of `number_at` is that it meets its contract.
+-- `reader::number` meets its contract: a walk of its MIR, by hand. The struct is taken apart, and `number_from` is called on the slice and the number. All that the proof knows of `number_from` is that it meets its contract.
 -- The struct is Copy: what it owns is had twice, one copy is kept whole for the exit, and of the other what line owns goes to the callee, beside the lifetime's token, which comes back. The facts of at and of allowed are made anew.
 -- Assumes nothing.
 use mathlib.Core.Bool.{Bool}
@@ -51,10 +51,10 @@ use Rattle.numbers.proofs.number.Reading.Laws as S′
 use Rattle.reader.specs.declared.Reader.{Reader}
 use Rattle.reader.proofs.Reader as T
 use Rattle.reader.proofs.Reader.Laws as T′
-use Rattle.reader.proofs.number_at as number-at
-use Rattle.reader.proofs.number_at.Symbol as number-at-def
-use Rattle.reader.proofs.number_at.Symbol.{name as #reader·number-at}
-use Rattle.reader.proofs.number_at.Met as number-at-thm
+use Rattle.numbers.proofs.number.number_from as number-from
+use Rattle.numbers.proofs.number.number_from.Symbol as number-from-def
+use Rattle.numbers.proofs.number.number_from.Symbol.{name as #numbers·number·number-from}
+use Rattle.numbers.proofs.number.number_from.Met as number-from-thm
 use Rattle.reader.proofs.number.Key.{name as #reader·number}
 use Rattle.reader.proofs.number as number
 use Rattle.reader.proofs.number.Statement as stated
@@ -69,8 +69,8 @@ stayed = (stay-none B yes, (stay-none (λ _. bool) yes, tt))
 
 module _ {M : Type 1} (𝓤 : URA M) (H : Heap 𝓤) (A : Atoms 𝓤) (mem : Memory → SProp 𝓤) (run : Routine → Fun 𝓤) where
   -- the contract that the proof cites
-  abbrev NumberAt : Contract 𝓤
-  NumberAt = tripleOf 𝓤 H A number-at.signature (number-at.spec 𝓤 H A mem run)
+  abbrev NumberFrom : Contract 𝓤
+  NumberFrom = tripleOf 𝓤 H A number-from.signature (number-from.spec 𝓤 H A mem run)
 
 module _ {M : Type 1} (𝓤 : URA M) (H : Heap 𝓤) (A : Atoms 𝓤) (W : Given 𝓤 H A) (mem : Memory → SProp 𝓤) (run : Routine → Fun 𝓤) (κ : Lft) (q : Share) (d : Reader) (t : Bool) where
   abbrev mach : Val
@@ -104,28 +104,28 @@ module _ {M : Type 1} (𝓤 : URA M) (H : Heap 𝓤) (A : Atoms 𝓤) (W : Given
   vd = (d .line, (d .at, tt))
 
   -- what the callee is passed
-  abbrev passed : Vals number-at.signature (κ, tt)
+  abbrev passed : Vals number-from.signature (κ, tt)
   passed = (v ∷ [], (vint w64 (d .at) ∷ [], (vbool t ∷ [], tt)))
 
-  abbrev to : NumberAt 𝓤 H A mem run .Ghost
+  abbrev to : NumberFrom 𝓤 H A mem run .Ghost
   to = (((κ, tt), (q, tt), tt, (d .line, (d .at, (t, tt))), passed), tt)
 
-  asked : ent 𝓤 (onEntry 𝓤 H A number-at.signature (κ, tt) (q, tt) (d .line, (d .at, (t, tt))) passed) (NumberAt 𝓤 H A mem run .pre to)
+  asked : ent 𝓤 (onEntry 𝓤 H A number-from.signature (κ, tt) (q, tt) (d .line, (d .at, (t, tt))) passed) (NumberFrom 𝓤 H A mem run .pre to)
   asked = qed W ((‵ (flft κ q) ⊛ ‵ ftrue) ∷ ‵ (owns (ShrSlice (named 0) κ u8 ∷ usize ∷ bool ∷ []) (d .line, (d .at, (t, tt))) passed) ∷ []) ∵ join ! $ frame ! $ done !
 
   -- what the struct owns gives what the callee asks, and is kept
-  apart : d .at < 2 ^ 64 → ent 𝓤 (onEntry 𝓤 H A number.signature (κ, tt) (q, tt) (d, (t, tt)) at) (sep 𝓤 (NumberAt 𝓤 H A mem run .pre to) (sem 𝓤 H A Own))
+  apart : d .at < 2 ^ 64 → ent 𝓤 (onEntry 𝓤 H A number.signature (κ, tt) (q, tt) (d, (t, tt)) at) (sep 𝓤 (NumberFrom 𝓤 H A mem run .pre to) (sem 𝓤 H A Own))
   apart fits =
       qed W ((‵ (flft κ q) ⊛ ‵ ftrue) ∷ ‵ (owns (B (κ, tt) ∷ bool ∷ []) (d, (t, tt)) at) ∷ []) ∵
       move ! (1 ∷ []) $ fsplit ! $ move ! (1 ∷ []) $ drop ! $ use1 W (‵ Own ⊛ ‵ Own) (LL.copy D (T′.the-copy (namedLft 1 0 tt (κ, tt))) 𝓤 H A W .twice d (mach ∷ [])) $ split ! $
       use1 W (given (mach ∷ [] ≡ mach ∷ []) (‵ (all-own (D .parts) L vd))) (own-open 𝓤 H A W D L vd mach) $ learn ! (λ _. use1 W (‵ (ownAt (D .parts) L 0 (d .line)) ⊛ ‵ (rest (D .parts) L 0 vd)) (own-out 𝓤 H A W (D .parts) L 0 vd) $ split ! $
       -- [what line owns; what at owns; what the struct owns; the token]
       move ! (1 ∷ []) $ drop ! $ nothing ! $ owned ! bool (Is bool) (bool-makes 𝓤 H A W) t _ refl $ fjoin ! $ owned ! usize (Is usize) (uint-makes 𝓤 H A W w64) (d .at) _ (refl, fits) $ fjoin ! $ move ! (1 ∷ 0 ∷ []) $ fjoin ! $
-      move ! (2 ∷ 0 ∷ []) $ use2 W (raw (NumberAt 𝓤 H A mem run .pre to)) asked $ frame ! $ done !)
+      move ! (2 ∷ 0 ∷ []) $ use2 W (raw (NumberFrom 𝓤 H A mem run .pre to)) asked $ frame ! $ done !)
 
   -- of the callee's `ensured`, the clause alone: it has no `&mut`, so what is said of last values is dropped
-  said : (r : Reading) → ent 𝓤 (ensured 𝓤 H A number-at.ended (number-at.clauses 𝓤 H A mem run) (κ, tt) (d .line, (d .at, (t, tt))) tt r) (fact 𝓤 (Known r))
-  said r = exE 𝓤 _ (λ ws. snd∗ 𝓤 (sem 𝓤 H A (lasts number-at.ended (κ, tt) (d .line, (d .at, (t, tt))) ws)) (fact 𝓤 (Known r)))
+  said : (r : Reading) → ent 𝓤 (ensured 𝓤 H A number-from.ended (number-from.clauses 𝓤 H A mem run) (κ, tt) (d .line, (d .at, (t, tt))) tt r) (fact 𝓤 (Known r))
+  said r = exE 𝓤 _ (λ ws. snd∗ 𝓤 (sem 𝓤 H A (lasts number-from.ended (κ, tt) (d .line, (d .at, (t, tt))) ws)) (fact 𝓤 (Known r)))
 
   exits : (r : Reading) (u : Val) → Known r → ent 𝓤 (⋆ 𝓤 H A (‵ (S.the-row .own r (u ∷ [])) ∷ (‵ (flft κ q) ⊛ ‵ ftrue) ∷ ‵ Own ∷ [])) (Post u)
   exits r u e =
@@ -133,17 +133,17 @@ module _ {M : Type 1} (𝓤 : URA M) (H : Heap 𝓤) (A : Atoms 𝓤) (W : Given
       suffices ! _ (ends-at 𝓤 H A number.ended stayed (number.clauses 𝓤 H A mem run) W (((κ, tt), (q, tt), tt, (d, (t, tt)), at), tt) u r (tt, (tt, tt)) (tt, (tt, tt))) $ says ! e $
       move ! (1 ∷ []) $ frame ! $ nothing ! $ owned ! bool (Is bool) (bool-makes 𝓤 H A W) t _ refl $ fjoin ! $ move ! (2 ∷ 0 ∷ []) $ fjoin ! $ frame ! $ done !
 
-  module _ (C : Calls 𝓤 H) (Λ : Loops 𝓤 H) (fm : FmC 𝓤 H (W .laws) C) (known : Triple 𝓤 (C #reader·number-at) (NumberAt 𝓤 H A mem run)) where
+  module _ (C : Calls 𝓤 H) (Λ : Loops 𝓤 H) (fm : FmC 𝓤 H (W .laws) C) (known : Triple 𝓤 (C #numbers·number·number-from) (NumberFrom 𝓤 H A mem run)) where
     walk : Holds (hasTy (T′.mir (named 0)) mach) × WT mach → ent 𝓤 (onEntry 𝓤 H A number.signature (κ, tt) (q, tt) (d, (t, tt)) at) (WpFn 𝓤 H C Λ code.function (mach ∷ vbool t ∷ []) Post)
     walk wt =
         qed W (raw (onEntry 𝓤 H A number.signature (κ, tt) (q, tt) (d, (t, tt)) at) ∷ []) ∵ enter ! C Λ code.function (mach ∷ vbool t ∷ []) _ $
         alloc1 ! (λ l₀. alloc1 ! (λ l₁. alloc1 ! (λ l₂. alloc1 ! (λ l₃. alloc1 ! (λ l₄. alloc0 ! $ params1 ! $ pass1 ! (init ! 6 refl wt) $ pass1 ! (init ! 4 refl (tt, tt)) $ pass0 ! $
         assigns ! (of-opd ! (load ! (from ! (fld ! refl (stop !))) (look-in ! 6 (sub ! 0 refl (whole !))))) (from ! (stop !)) (init ! 2 refl (tt, wt .1 .0)) $
         assigns ! (of-opd ! (load ! (from ! (fld ! refl (stop !))) (look-in ! 6 (sub ! 1 refl (whole !))))) (from ! (stop !)) (init ! 0 refl (tt, wt .1 .1 .0)) $
-        move ! (10 ∷ []) $ use1 W (raw (NumberAt 𝓤 H A mem run .pre to) ⊛ ‵ Own) (apart (wt .1 .1 .0 .fits)) $ split ! $
+        move ! (10 ∷ []) $ use1 W (raw (NumberFrom 𝓤 H A mem run .pre to) ⊛ ‵ Own) (apart (wt .1 .1 .0 .fits)) $ split ! $
         -- [what the callee asks; what the struct owns; _4; …; _3; …; _2; …; _1; …; room for _0; …]
-        calls-at ! fm (NumberAt 𝓤 H A mem run) known to (and-then ! (load ! (from ! (stop !)) (look ! 4 refl)) (and-then ! (load ! (from ! (stop !)) (look ! 2 refl)) (and-then ! (load ! (from ! (stop !)) (look ! 6 refl)) (no-more !)))) (λ u.
-        use1 W (later (some (λ (r : Reading). ((‵ (flft κ q) ⊛ ‵ ftrue) ⊛ ‵ (S.the-row .own r (u ∷ []))) ⊛ raw (ensured 𝓤 H A number-at.ended (number-at.clauses 𝓤 H A mem run) (κ, tt) (d .line, (d .at, (t, tt))) tt r)))) (id⊢ 𝓤 _) $ await ! tt $ pick ! (λ r.
+        calls-at ! fm (NumberFrom 𝓤 H A mem run) known to (and-then ! (load ! (from ! (stop !)) (look ! 4 refl)) (and-then ! (load ! (from ! (stop !)) (look ! 2 refl)) (and-then ! (load ! (from ! (stop !)) (look ! 6 refl)) (no-more !)))) (λ u.
+        use1 W (later (some (λ (r : Reading). ((‵ (flft κ q) ⊛ ‵ ftrue) ⊛ ‵ (S.the-row .own r (u ∷ []))) ⊛ raw (ensured 𝓤 H A number-from.ended (number-from.clauses 𝓤 H A mem run) (κ, tt) (d .line, (d .at, (t, tt))) tt r)))) (id⊢ 𝓤 _) $ await ! tt $ pick ! (λ r.
         split ! $ move ! (1 ∷ []) $ use1 W (raw (fact 𝓤 (Known r))) (said r) $ heard ! (Known r) (λ e. split ! $ move ! (1 ∷ []) $
         -- [the result; the token; what the struct owns; _4; …; _3; …; _2; …; _1; …; room for _0; …]
         peeks ! S.the-row (Is S.the-row) (shows 𝓤 H A S.the-row) r (u ∷ []) (λ is.
@@ -152,7 +152,7 @@ module _ {M : Type 1} (𝓤 : URA M) (H : Heap 𝓤) (A : Atoms 𝓤) (W : Given
         move ! (11 ∷ 12 ∷ []) $ free1 ! $ move ! (9 ∷ 10 ∷ []) $ free1 ! $ move ! (7 ∷ 8 ∷ []) $ free1 ! $ move ! (5 ∷ 6 ∷ []) $ free1 ! $ move ! (3 ∷ 4 ∷ []) $ free1 ! $ free0 ! $ by ! (exits r u e))))))))))
 
 module _ {M : Type 1} (𝓤 : URA M) (H : Heap 𝓤) (A : Atoms 𝓤) (W : Given 𝓤 H A) (mem : Memory → SProp 𝓤) (run : Routine → Fun 𝓤) where
-  number-walks : (C : Calls 𝓤 H) (Λ : Loops 𝓤 H) → FmC 𝓤 H (W .laws) C → Triple 𝓤 (C #reader·number-at) (NumberAt 𝓤 H A mem run)
+  number-walks : (C : Calls 𝓤 H) (Λ : Loops 𝓤 H) → FmC 𝓤 H (W .laws) C → Triple 𝓤 (C #numbers·number·number-from) (NumberFrom 𝓤 H A mem run)
       → Walks 𝓤 H A number.ended stayed (WpFn 𝓤 H C Λ code.function) (number.clauses 𝓤 H A mem run)
   number-walks C Λ fm known =
       walked 𝓤 H A number.ended stayed (number.clauses 𝓤 H A mem run) (WpFn 𝓤 H C Λ code.function)
@@ -163,7 +163,7 @@ module _ {M : Type 1} (𝓤 : URA M) (H : Heap 𝓤) (A : Atoms 𝓤) (W : Given
       (walk 𝓤 H A W mem run (κs .0) (qs .0) (a .0) (a .1 .0) C Λ fm known (LL.lawful (T.the-type (namedLft 1 0 tt κs)) (T′.the-laws (namedLft 1 0 tt κs)) 𝓤 H A W .typed (a .0) _ (are .0) .0)))
 
 number-meets : {M : Type 1} (𝓤 : URA M) (H : Heap 𝓤) (A : Atoms 𝓤) (W : Given 𝓤 H A) (mem : Memory → SProp 𝓤) (run : Routine → Fun 𝓤) (𝓣 : Tables 𝓤 H)
-    → Triple 𝓤 (𝓣 .C #reader·number-at) (NumberAt 𝓤 H A mem run)
+    → Triple 𝓤 (𝓣 .C #numbers·number·number-from) (NumberFrom 𝓤 H A mem run)
     → Meets 𝓤 H A number.signature (WpFn 𝓤 H (𝓣 .C) (𝓣 .Λ) code.function) (number.spec 𝓤 H A mem run)
 number-meets 𝓤 H A W mem run 𝓣 known =
     walk-meets 𝓤 H A number.ended stayed W (goes-none 𝓤 H A W 1 B yes (λ κs x f. refl), (goes-none 𝓤 H A W 1 (λ _. bool) yes (λ κs x f. refl), tt)) (number.clauses 𝓤 H A mem run) (WpFn 𝓤 H (𝓣 .C) (𝓣 .Λ) code.function) (WpFn-mono 𝓤 H (W .laws) 𝓣 code.function)
@@ -175,4 +175,4 @@ number-spec 𝓤 H 𝓜 𝓖 𝓡 =
     entered 𝓤 H (tripleOf 𝓤 H (𝓖 .A) number.signature (number.spec 𝓤 H (𝓖 .A) (𝓜 .mem) (𝓡 .run)))
     (tables 𝓤 H 𝓜 𝓡 code.env .C) (tables 𝓤 H 𝓜 𝓡 code.env .Λ) #reader·number code.function (code.unfolded 𝓤 H 𝓜 𝓡)
     (number-meets 𝓤 H (𝓖 .A) (givenOf 𝓤 H 𝓜 𝓖) (𝓜 .mem) (𝓡 .run) (tablesOf 𝓤 H 𝓜 (tables 𝓤 H 𝓜 𝓡 code.env))
-    (cited 𝓤 H (NumberAt 𝓤 H (𝓖 .A) (𝓜 .mem) (𝓡 .run)) 𝓜 𝓡 code.env #reader·number-at number-at-def.routine code.calls-reader·number-at (number-at-thm.met 𝓤 H 𝓜 𝓖 𝓡)))
+    (cited 𝓤 H (NumberFrom 𝓤 H (𝓖 .A) (𝓜 .mem) (𝓡 .run)) 𝓜 𝓡 code.env #numbers·number·number-from number-from-def.routine code.calls-numbers·number·number-from (number-from-thm.met 𝓤 H 𝓜 𝓖 𝓡)))
