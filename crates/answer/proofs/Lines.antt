@@ -8,20 +8,20 @@ use native.Mathlib.Omega.{arith}
 use borrow.Author.Tests.{le-leb, lt-leb, leb-true, leb-false}
 use lib.Dec.{leb}
 use lib.IntN.{ℤ}
-use lib.ListN.{length, take, getD}
-use lib.Seq.{length-take-le}
-use Rattle.model.specs.Letter.{ages}
-use Rattle.model.proofs.Ages.{ages-small}
+use lib.ListN.{length}
 use Rattle.model.specs.Number.{decimal, signedDecimal}
-use Rattle.model.specs.Answer.{declared, rated, fact, tax, refusal, text, doneText}
+use Rattle.model.specs.Published.{published}
+use Rattle.model.specs.Answer.{declared, rated, tax, refusal, text, doneText}
 use Rattle.model.specs.Answer as model
 use Rattle.ledger.specs.declared.answer.Answer.{Answer}
 use Rattle.ledger.specs.declared.answer.Answer.the-variants as answer
 use Rattle.refusal.specs.declared.Refusal.{Refusal}
+use Rattle.state.specs.Patterns.{factorAt}
 use Rattle.ledger.specs.Answer.{answered}
 use Rattle.refusal.specs.Number.{numberOf}
 use Rattle.answer.specs.Put.{tabbed, Room, Puts, PutsShort}
 use Rattle.answer.specs.Text.{hasRoom, PutsWithRoom}
+use Rattle.answer.proofs.Factors.{factors}
 use Rattle.answer.proofs.Joins.{joined, next-inside, fact-line}
 
 -- a text and what comes after it
@@ -48,12 +48,12 @@ module _ (buffer : List ℕ) (at : ℕ) (room : Room buffer at 320) (later : Lis
       and-then buffer at le _ m₁ n₁ p₁ _ later last (λ le₁. and-then m₁ n₁ le₁ _ m₂ n₂ (p₂ .puts) _ later last (λ le₂. and-then m₂ n₂ le₂ _ m₃ n₃ (p₃ .puts) _ later last (λ le₃. p₄)))
 
   -- "FACT: letter, year, published factors .., published composite."
-  pub fact-put : (letter year n : ℕ) → n ≡ ages letter → (published : List ℕ) (m₁ m₂ m₃ m₄ m₅ : List ℕ) (n₁ n₂ n₃ n₄ n₅ : ℕ) → Puts buffer at (70 ∷ 65 ∷ 67 ∷ 84 ∷ 9 ∷ []) m₁ n₁ → Puts m₁ n₁ (letter ∷ []) m₂ n₂
-      → PutsShort m₂ n₂ (9 ∷ decimal year) m₃ n₃ 21 → PutsShort m₃ n₃ (tabbed (take n published)) m₄ n₄ 210 → PutsShort m₄ n₄ (9 ∷ decimal (getD published 10 0)) m₅ n₅ 21 → Puts m₅ n₅ (10 ∷ []) later last
-      → Puts buffer at (text (fact letter year (take (ages letter) published) (getD published 10 0))) later last
+  pub fact-put : (store : List ℕ) (letter year : ℕ) (m₁ m₂ m₃ m₄ m₅ : List ℕ) (n₁ n₂ n₃ n₄ n₅ : ℕ) → Puts buffer at (70 ∷ 65 ∷ 67 ∷ 84 ∷ 9 ∷ []) m₁ n₁ → Puts m₁ n₁ (letter ∷ []) m₂ n₂
+      → PutsShort m₂ n₂ (9 ∷ decimal year) m₃ n₃ 21 → PutsShort m₃ n₃ (tabbed (factors store letter year)) m₄ n₄ 210 → PutsShort m₄ n₄ (9 ∷ decimal (published (factorAt store letter year 10))) m₅ n₅ 21 → Puts m₅ n₅ (10 ∷ []) later last
+      → Puts buffer at (text (answered (answer.Fact letter year) store)) later last
   unfolding text
-  fact-put letter year n en published m₁ m₂ m₃ m₄ m₅ n₁ n₂ n₃ n₄ n₅ p₁ p₂ p₃ p₄ p₅ p₆ =
-      rw (← en, fact-line (decimal year) (decimal (getD published 10 0)) (take n published))
+  fact-put store letter year m₁ m₂ m₃ m₄ m₅ n₁ n₂ n₃ n₄ n₅ p₁ p₂ p₃ p₄ p₅ p₆ =
+      rw (fact-line (decimal year) (decimal (published (factorAt store letter year 10))) (factors store letter year))
       (and-then buffer at le _ m₁ n₁ p₁ _ later last (λ le₁. and-then m₁ n₁ le₁ _ m₂ n₂ p₂ _ later last (λ le₂. and-then m₂ n₂ le₂ _ m₃ n₃ (p₃ .puts) _ later last
       (λ le₃. and-then m₃ n₃ le₃ _ m₄ n₄ (p₄ .puts) _ later last (λ le₄. and-then m₄ n₄ le₄ _ m₅ n₅ (p₅ .puts) _ later last (λ le₅. p₆))))))
 
@@ -103,34 +103,23 @@ module _ (buffer : List ℕ) (at : ℕ) where
     pub without-room : t ≡ false → (list : List ℕ) → PutsWithRoom buffer at list buffer at
     without-room e list = record { whole = rw (← et, e); after-it = rw (← et, e) }
 
--- the factors of a line, as many as it has ages
-module _ (letter n : ℕ) (en : n ≡ ages letter) (list : List ℕ) where
-  pub factors-in : length list ≡ 11 → n ≤ length list
-  factors-in l = omega (arith, ages-small letter)
-
-  pub factors-few : length list ≡ 11 → length (take n list) ≤ 10
-  factors-few l = rw (length-take-le n list (factors-in l)) (omega (arith, ages-small letter))
-
-  pub factors-taken : length list ≡ 11 → n ≡ length (take n list)
-  factors-taken l = sym (length-take-le n list (factors-in l))
-
 -- each case of an answer
-module _ (buffer : List ℕ) (at : ℕ) (t : Bool) (et : t ≡ hasRoom buffer at) (e : t ≡ true) (given : Answer) (published later : List ℕ) (last : ℕ) where
-  line-answered : (shown : model.Answer) → answered given published ≡ shown → Puts buffer at (text shown) later last → PutsWithRoom buffer at (text (answered given published)) later last
+module _ (buffer : List ℕ) (at : ℕ) (t : Bool) (et : t ≡ hasRoom buffer at) (e : t ≡ true) (given : Answer) (store later : List ℕ) (last : ℕ) where
+  line-answered : (shown : model.Answer) → answered given store ≡ shown → Puts buffer at (text shown) later last → PutsWithRoom buffer at (text (answered given store)) later last
   line-answered shown es p = rw es (with-room buffer at t et e (text shown) later last p)
 
-  pub declared-answered : (letter opening : ℕ) → given ≡ answer.Line letter opening → Puts buffer at (text (declared letter opening)) later last → PutsWithRoom buffer at (text (answered given published)) later last
+  pub declared-answered : (letter opening : ℕ) → given ≡ answer.Line letter opening → Puts buffer at (text (declared letter opening)) later last → PutsWithRoom buffer at (text (answered given store)) later last
   declared-answered letter opening eg p = line-answered (declared letter opening) (rw eg) p
 
-  pub rated-answered : (year rate : ℕ) → given ≡ answer.Rate year rate → Puts buffer at (text (rated year rate)) later last → PutsWithRoom buffer at (text (answered given published)) later last
+  pub rated-answered : (year rate : ℕ) → given ≡ answer.Rate year rate → Puts buffer at (text (rated year rate)) later last → PutsWithRoom buffer at (text (answered given store)) later last
   rated-answered year rate eg p = line-answered (rated year rate) (rw eg) p
 
-  pub fact-answered : (letter year : ℕ) → given ≡ answer.Fact letter year → Puts buffer at (text (fact letter year (take (ages letter) published) (getD published 10 0))) later last → PutsWithRoom buffer at (text (answered given published)) later last
-  fact-answered letter year eg p = line-answered (fact letter year (take (ages letter) published) (getD published 10 0)) (rw eg) p
+  pub fact-answered : (letter year : ℕ) → given ≡ answer.Fact letter year → Puts buffer at (text (answered (answer.Fact letter year) store)) later last → PutsWithRoom buffer at (text (answered given store)) later last
+  fact-answered letter year eg p = line-answered (answered (answer.Fact letter year) store) (rw eg) p
 
   pub tax-answered : (letter year : ℕ) (paid : ℤ) (opening closing : ℕ) (loss : ℤ) → given ≡ answer.Tax letter year paid opening closing loss → (paid′ loss′ : ℤ) → Puts buffer at (text (tax letter year paid′ opening closing loss′)) later last
-      → paid′ ≡ paid → loss′ ≡ loss → PutsWithRoom buffer at (text (answered given published)) later last
+      → paid′ ≡ paid → loss′ ≡ loss → PutsWithRoom buffer at (text (answered given store)) later last
   tax-answered letter year paid opening closing loss eg paid′ loss′ p ep el = line-answered (tax letter year paid opening closing loss) (rw eg) (rw (ep, el) at p)
 
-  pub refusal-answered : (question : Refusal) → given ≡ answer.No question → Puts buffer at (text (refusal (numberOf question))) later last → PutsWithRoom buffer at (text (answered given published)) later last
+  pub refusal-answered : (question : Refusal) → given ≡ answer.No question → Puts buffer at (text (refusal (numberOf question))) later last → PutsWithRoom buffer at (text (answered given store)) later last
   refusal-answered question eg p = line-answered (refusal (numberOf question)) (rw eg) p

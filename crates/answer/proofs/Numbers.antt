@@ -1,38 +1,32 @@
--- Numbers put from their digits, and what the code computes of a number that may fall below zero.
+-- A number's digits put after a first text, and what the code computes of a number that may fall below zero.
 -- Assumes nothing.
 use mathlib.Core.Bool.{true, false}
 use mathlib.Core.Path.{_≡_, refl, subst, _∙_}
 use mathlib.Core.List.{List, [], _∷_, _++_}
-use Prim.Native.Nat.{ℕ, suc, _+_, _-_, _≤_}
+use Prim.Native.Nat.{ℕ, suc, _+_, _-_}
 use native.Mathlib.Omega.{arith}
 use native.Mathlib.Numerals.{add-one}
 use borrow.Author.Tests.{ltb-true, le-ltb}
 use lib.Dec.{T}
 use lib.IntN.{ℤ, pos, negsuc, natAbs, _-ℤ_}
-use lib.ListN.{length, take, drop, length-drop, length-append}
-use lib.Seq.{take-all}
+use lib.ListN.{length}
 use lib.Signed.{mag, ltZ, nonNeg}
 use mir.Syntax.{w64}
 use mir.Val.{Fits, SFits, toZ, ofZ}
 use mir.Facts.{toZ-ofZ, fits-natAbs}
 use Rattle.model.specs.Number.{minus, decimal, signedDecimal}
-use Rattle.answer.specs.Digits.{Spelled}
 use Rattle.answer.specs.Put.{Room, Puts, PutsShort}
 use Rattle.answer.proofs.Joins.{joined}
 
--- the digits of a number, put after a first text
-digits-put : (buffer : List ℕ) (at : ℕ) (first middle : List ℕ) (next : ℕ) → Puts buffer at first middle next
-    → (n : ℕ) (bytes : List ℕ) (start : ℕ) → Spelled n bytes start → (later : List ℕ) (last : ℕ) → Puts middle next (take (20 - start) (drop start bytes)) later last
+digits-put : (buffer : List ℕ) (at : ℕ) (first middle : List ℕ) (next : ℕ) → Puts buffer at first middle next → (n : ℕ) (later : List ℕ) (last : ℕ) → PutsShort middle next (decimal n) later last 20
     → Room buffer at (length first + 20) → PutsShort buffer at (first ++ decimal n) later last (length first + 20)
-digits-put buffer at first middle next p n bytes start s later last q room =
-    let long : length (drop start bytes) ≡ 20 - start = rw (length-drop, s .places) in
-    let text : take (20 - start) (drop start bytes) ≡ decimal n = take-all (20 - start) (drop start bytes) (omega arith) ∙ s .spelled in
-    let count : length (decimal n) ≤ 20 = rw (← (s .spelled)) (omega arith) in
-    let both = joined buffer at first (omega arith) (decimal n) middle next p later last (rw text at q) in
-    record { puts = both; short = omega (arith, both .after-it, length-append first (decimal n), count) }
+digits-put buffer at first middle next p n later last q room =
+    record {
+      puts = joined buffer at first (omega arith) (decimal n) middle next p later last (q .puts);
+      short = omega (arith, p .after-it, q .short);
+    }
 
-pub number-put : (buffer : List ℕ) (at : ℕ) (middle : List ℕ) (next : ℕ) → Puts buffer at (9 ∷ []) middle next
-    → (n : ℕ) (bytes : List ℕ) (start : ℕ) → Spelled n bytes start → (later : List ℕ) (last : ℕ) → Puts middle next (take (20 - start) (drop start bytes)) later last
+pub number-put : (buffer : List ℕ) (at : ℕ) (middle : List ℕ) (next : ℕ) → Puts buffer at (9 ∷ []) middle next → (n : ℕ) (later : List ℕ) (last : ℕ) → PutsShort middle next (decimal n) later last 20
     → Room buffer at 21 → PutsShort buffer at (9 ∷ decimal n) later last 21
 number-put buffer at = digits-put buffer at (9 ∷ [])
 
@@ -68,11 +62,10 @@ module _ (v : ℤ) (fits : SFits w64 v) (below : ltZ (toZ w64 (ofZ w64 v)) (pos 
   pub one-more-fits : Fits w64 (natAbs (opposite v) + 1)
   one-more-fits = rw opposite-is (record { fits = omega (arith, fits .sfits) })
 
-  pub minus-put : (buffer : List ℕ) (at : ℕ) (middle : List ℕ) (next : ℕ) → Puts buffer at (9 ∷ minus ∷ []) middle next
-      → (bytes : List ℕ) (start : ℕ) → Spelled (natAbs (opposite v) + 1) bytes start → (later : List ℕ) (last : ℕ) → Puts middle next (take (20 - start) (drop start bytes)) later last
+  pub minus-put : (buffer : List ℕ) (at : ℕ) (middle : List ℕ) (next : ℕ) → Puts buffer at (9 ∷ minus ∷ []) middle next → (later : List ℕ) (last : ℕ) → PutsShort middle next (decimal (natAbs (opposite v) + 1)) later last 20
       → Room buffer at 22 → PutsShort buffer at (9 ∷ signedDecimal v) later last 22
-  minus-put buffer at middle next p bytes start s later last q room =
-      rw (← (minus-text v falls)) (digits-put buffer at (9 ∷ minus ∷ []) middle next p (mag v + 1) bytes start (rw opposite-is at s) later last q room)
+  minus-put buffer at middle next p later last q room =
+      rw (← (minus-text v falls)) (digits-put buffer at (9 ∷ minus ∷ []) middle next p (mag v + 1) later last (rw opposite-is at q) room)
 
 -- a number that is not below zero
 not-below : (v : ℤ) → ltZ v (pos 0) ≡ false → T (nonNeg v)

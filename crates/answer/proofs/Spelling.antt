@@ -1,14 +1,14 @@
--- The loop that spells a number from its last digit on.
+-- A number's digits: how many there are, and what they are from the last one back.
 -- Assumes nothing.
-use mathlib.Core.Path.{_≡_, sym, _∙_}
-use mathlib.Core.List.{List, _∷_}
+use mathlib.Core.Logic.{⊎-elim}
+use mathlib.Core.Path.{_≡_, sym, ap, _∙_}
+use mathlib.Core.List.{List, [], _∷_}
 use Prim.Native.Nat.{ℕ, zero, suc, _+_, _-_, _/_, _%_, _^_, _≤_, _<_}
+use native.Mathlib.Nat.{eq-zero-or-pos}
 use native.Mathlib.Omega.{arith}
 use borrow.Author.Tests.{lt-ltb, le-ltb}
-use lib.ListN.{length, take, drop, set, length-set}
-use lib.Seq.{set-split, drop-at, drop-length, length-take-le}
+use lib.ListN.{length}
 use Rattle.model.specs.Number.{digitsBefore, decimal}
-use Rattle.answer.specs.Digits.{Spelled}
 
 -- the two cases of the digits
 pub last-digit : (more n : ℕ) (others : List ℕ) → n < more → n ≤ 9 → digitsBefore more n others ≡ (48 + n) ∷ others
@@ -21,58 +21,49 @@ unfolding digitsBefore
 next-digit zero n others e lt = absurd (omega arith)
 next-digit (suc more) n others e lt = let less : suc more - 1 ≡ more = omega arith in rw (le-ltb n 10 (omega arith), less)
 
--- the digits after place `start` are written, and those of `rest` come before them
-pub record Spelling (n : ℕ) (bytes : List ℕ) (start rest : ℕ) : Type 0 where
-  pub places : length bytes ≡ 20
-  pub inside : start < 20
-  pub small : rest < 10 ^ suc start
-  pub more : ℕ
-  pub enough : rest < more
-  pub spelled : digitsBefore more rest (drop (suc start) bytes) ≡ decimal n
+-- the last digits of n, so many as is said, before others
+abbrev pub lastDigits : ℕ → ℕ → List ℕ → List ℕ
+lastDigits zero n others = others
+lastDigits (suc count) n others = lastDigits count (n / 10) ((48 + n % 10) ∷ others)
 
-pub spell-start : (n : ℕ) (bytes : List ℕ) → n < 2 ^ 64 → length bytes ≡ 20 → Spelling n bytes 19 n
-unfolding decimal
-spell-start n bytes small places =
-    record {
-      places = places;
-      inside = omega arith;
-      small = omega arith;
-      more = suc n;
-      enough = omega arith;
-      spelled = rw (← places, drop-length bytes);
-    }
+length-last : (count n : ℕ) (others : List ℕ) → length (lastDigits count n others) ≡ count + length others
+length-last zero n others = omega arith
+length-last (suc count) n others = omega (arith, length-last count (n / 10) ((48 + n % 10) ∷ others))
 
--- what is stored at a place stands before the rest
-stored : (bytes : List ℕ) (i v : ℕ) → i < length bytes → drop i (set bytes i v) ≡ v ∷ drop (suc i) bytes
-stored bytes i v lt = rw (set-split bytes i v lt) (drop-at (take i bytes) (v ∷ drop (suc i) bytes) i (length-take-le i bytes (omega arith)))
+-- the digits of n are its last ones, and there are at most so many as is said
+record Spelled (more n most : ℕ) : Type 0 where
+  count : ℕ
+  few : count ≤ most
+  are : (others : List ℕ) → digitsBefore more n others ≡ lastDigits count n others
 
--- while there are two digits or more, a place is left before this one
-left : (start rest : ℕ) → rest < 10 ^ suc start → 9 < rest → 0 < start
-left zero rest small lt = absurd (omega arith)
-left (suc start) rest small lt = omega arith
+one-digit : (more n most : ℕ) → n < more → n ≤ 9 → Spelled more n (suc most)
+one-digit more n most e le =
+    let digit : n ≡ n % 10 = omega arith in
+    record { count = 1; few = omega arith; are = λ others. last-digit more n others e le ∙ ap (λ (d : ℕ). (48 + d) ∷ others) digit }
 
-module _ (n : ℕ) (bytes : List ℕ) (start rest : ℕ) (s : Spelling n bytes start rest) where
-  pub room-left : 9 < rest → 0 < start
-  room-left lt = left start rest (s .small) lt
+one-more : (more n most : ℕ) → n < more → 9 < n → Spelled (more - 1) (n / 10) most → Spelled more n (suc most)
+one-more more n most e lt s =
+    record { count = suc (s .count); few = omega (arith, s .few); are = λ others. next-digit more n others e lt ∙ s .are ((48 + n % 10) ∷ others) }
 
-  pub spell-on : 9 < rest → Spelling n (set bytes start (48 + rest % 10)) (start - 1) (rest / 10)
-  spell-on lt =
-      let before : suc (start - 1) ≡ start = omega (arith, room-left lt) in
-      record {
-        places = rw length-set (s .places);
-        inside = omega (arith, s .inside);
-        small = rw before (omega (arith, s .small));
-        more = s .more - 1;
-        enough = omega (arith, s .enough);
-        spelled =
-            rw (before, stored bytes start (48 + rest % 10) (omega (arith, s .places, s .inside)), ← (next-digit (s .more) rest (drop (suc start) bytes) (s .enough) lt))
-            (s .spelled);
-      }
+spelled : (most more n : ℕ) → n < more → n < 10 ^ suc most → Spelled more n (suc most)
+spelled zero more n e small = one-digit more n zero e (omega arith)
+spelled (suc most) more n e small =
+    ⊎-elim
+    (λ (z : n - 9 ≡ 0). one-digit more n (suc most) e (omega arith))
+    (λ (lt : 0 < n - 9). one-more more n (suc most) e (omega arith) (spelled most (more - 1) (n / 10) (omega arith) (omega arith)))
+    (eq-zero-or-pos (n - 9))
 
-  pub spell-end : rest ≤ 9 → Spelled n (set bytes start (48 + rest)) start
-  spell-end le =
-      record {
-        places = rw length-set (s .places);
-        inside = s .inside;
-        spelled = rw (stored bytes start (48 + rest) (omega (arith, s .places, s .inside))) (sym (last-digit (s .more) rest (drop (suc start) bytes) (s .enough) le) ∙ s .spelled);
-      }
+module _ (n : ℕ) (small : n < 2 ^ 64) where
+  is-spelled : Spelled (suc n) n 20
+  is-spelled = spelled 19 (suc n) n (omega arith) (omega arith)
+
+  count-is : length (decimal n) ≡ is-spelled .count
+  unfolding decimal
+  count-is = rw (is-spelled .are []) (omega (arith, length-last (is-spelled .count) n []))
+
+  pub decimal-short : length (decimal n) ≤ 20
+  decimal-short = omega (arith, count-is, is-spelled .few)
+
+  pub decimal-last : lastDigits (length (decimal n)) n [] ≡ decimal n
+  unfolding decimal
+  decimal-last = rw count-is (sym (is-spelled .are []))

@@ -1,23 +1,16 @@
-// "Numbers in records are decimal.": the digits of a number.
-ghost use Rattle.answer.specs.Digits.{Spelled};
+// "Numbers in records are decimal.": how many digits a number has.
+ghost use mathlib.Core.Path.{_≡_};
+ghost use lib.ListN.{length};
+ghost use Rattle.model.specs.Number.{decimal};
 
-// The digits stand at the end of `bytes`, from place `start` on.
-pub struct Decimal {
-    pub bytes: [u8; 20],
-    pub start: usize,
-}
-
-pub fn digits(n: u64) -> Decimal
-    ensures { λ r. ⌜ Spelled n (r .bytes) (r .start) ⌝ }
+pub fn digit_count(n: u64) -> usize
+    ensures { λ r. ⌜ r ≡ length (decimal n) ⌝ }
 {
-    let mut bytes = [0u8; 20];
-    let mut start = 19;
+    let mut count = 1;
     let mut rest = n;
     while rest > 9 {
-        bytes[start] = 48 + (rest % 10) as u8;
         rest /= 10;
-        start -= 1;
+        count += 1;
     }
-    bytes[start] = 48 + rest as u8;
-    Decimal { bytes, start }
+    count
 }

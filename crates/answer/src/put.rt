@@ -1,10 +1,9 @@
 // Texts put into a lent buffer, each from a place on; the place after it is answered.
-use crate::digits::digits;
+use crate::digits::digit_count;
 ghost use mathlib.Core.List.{[], _∷_};
-ghost use Prim.Native.Nat.{_≤_};
 ghost use lib.ListN.{length};
 ghost use Rattle.model.specs.Number.{decimal, signedDecimal};
-ghost use Rattle.answer.specs.Put.{Room, Puts, PutsShort, tabbed};
+ghost use Rattle.answer.specs.Put.{Room, Puts, PutsShort};
 
 pub fn put(out: &mut [u8], at: usize, text: &[u8]) -> usize
     requires { ⌜ Room (now out) at (length (now text)) ⌝ }
@@ -26,16 +25,29 @@ pub fn put_byte(out: &mut [u8], at: usize, byte: u8) -> usize
     at + 1
 }
 
+// The digits of a number, from the last one back.
+fn put_digits(out: &mut [u8], at: usize, n: u64) -> usize
+    requires { ⌜ Room (now out) at 20 ⌝ }
+    ensures { λ r. ⌜ PutsShort (now (out .entry)) at (decimal n) (now (out .exit)) r 20 ⌝ }
+{
+    let next = at + digit_count(n);
+    let mut rest = n;
+    let mut i = next;
+    while i > at {
+        i -= 1;
+        out[i] = 48 + (rest % 10) as u8;
+        rest /= 10;
+    }
+    next
+}
+
 // A tab and a number.
 pub fn put_number(out: &mut [u8], at: usize, n: u64) -> usize
     requires { ⌜ Room (now out) at 21 ⌝ }
     ensures { λ r. ⌜ PutsShort (now (out .entry)) at (9 ∷ decimal n) (now (out .exit)) r 21 ⌝ }
 {
-    let number = digits(n);
-    let bytes = number.bytes;
-    let start = number.start;
     let next = put_byte(out, at, 9);
-    put(out, next, &bytes[start..])
+    put_digits(out, next, n)
 }
 
 // A tab and a number that may fall below zero.
@@ -44,25 +56,9 @@ pub fn put_signed(out: &mut [u8], at: usize, v: i64) -> usize
     ensures { λ r. ⌜ PutsShort (now (out .entry)) at (9 ∷ signedDecimal v) (now (out .exit)) r 22 ⌝ }
 {
     if v < 0 {
-        let number = digits((-1 - v) as u64 + 1);
-        let bytes = number.bytes;
-        let start = number.start;
+        let size = (-1 - v) as u64 + 1;
         let next = put(out, at, b"\t-");
-        return put(out, next, &bytes[start..]);
+        return put_digits(out, next, size);
     }
     put_number(out, at, v as u64)
-}
-
-// A tab and a number, for each of a list.
-pub fn put_numbers(out: &mut [u8], at: usize, list: &[u64]) -> usize
-    requires { ⌜ (length (now list) ≤ 10) × (Room (now out) at 210) ⌝ }
-    ensures { λ r. ⌜ PutsShort (now (out .entry)) at (tabbed (now (list .entry))) (now (out .exit)) r 210 ⌝ }
-{
-    let mut next = at;
-    let mut i = 0;
-    while i < list.len() {
-        next = put_number(out, next, list[i]);
-        i += 1;
-    }
-    next
 }

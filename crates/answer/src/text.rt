@@ -2,32 +2,38 @@
 use crate::put::put;
 use crate::put::put_byte;
 use crate::put::put_number;
-use crate::put::put_numbers;
 use crate::put::put_signed;
+use factor::published::published;
 use ledger::answer::Answer;
 use letters::letter::ages;
 use refusal::Refusal;
+use state::patterns::COMPOSITE;
+use state::patterns::factor_in;
+use state::store::Store;
+ghost use mathlib.Core.List.{_∷_, map};
 ghost use mathlib.Core.Path.{_≡_};
-ghost use lib.ListN.{take, getD};
-ghost use Rattle.model.specs.Letter.{ages};
-ghost use Rattle.model.specs.Answer.{declared, rated, fact, tax, refusal, text, doneText};
+ghost use Rattle.model.specs.Answer.{declared, rated, tax, refusal, text, doneText};
+ghost use Rattle.model.specs.Number.{decimal};
+ghost use Rattle.model.specs.Published.{published};
+ghost use Rattle.state.specs.Patterns.{factorAt, patternAt};
 ghost use Rattle.ledger.specs.Answer.{answered};
+ghost use Rattle.ledger.specs.declared.answer.Answer.the-variants.{Fact};
 ghost use Rattle.refusal.specs.Number.{numberOf};
-ghost use Rattle.answer.specs.Put.{Room, Puts};
+ghost use Rattle.answer.specs.Put.{Room, Puts, PutsShort, tabbed};
 ghost use Rattle.answer.specs.Text.{hasRoom, PutsWithRoom};
 
 // No text is longer.
 pub const MOST: usize = 320;
 
 // The text of an answer from a place on. The place after it is answered; where the longest text has no room, nothing is put.
-pub fn put_answer(out: &mut [u8], at: usize, answer: Answer, published: [u64; 11]) -> usize
-    ensures { λ r. ⌜ PutsWithRoom (now (out .entry)) at (text (answered answer published)) (now (out .exit)) r ⌝ }
+pub fn put_answer(out: &mut [u8], at: usize, answer: Answer, store: &Store) -> usize
+    ensures { λ r. ⌜ PutsWithRoom (now (out .entry)) at (text (answered answer (now (store .entry)))) (now (out .exit)) r ⌝ }
 {
     if has_room(out, at) {
         match answer {
             Answer::Line { letter, opening } => put_declared(out, at, letter, opening),
             Answer::Rate { year, rate } => put_rated(out, at, year, rate),
-            Answer::Fact { letter, year } => put_fact(out, at, letter, year, published),
+            Answer::Fact { letter, year } => put_fact(out, at, letter, year, store),
             Answer::Tax {
                 letter,
                 year,
@@ -96,17 +102,50 @@ fn put_rated(out: &mut [u8], at: usize, year: u64, rate: u64) -> usize
 }
 
 // "A PATT prints FACT: letter, year, published factors of ages 1 to 10 (1 and 2), published composite."
-fn put_fact(out: &mut [u8], at: usize, letter: u8, year: u64, published: [u64; 11]) -> usize
+fn put_fact(out: &mut [u8], at: usize, letter: u8, year: u64, store: &Store) -> usize
     requires { ⌜ Room (now out) at 320 ⌝ }
-    ensures { λ r. ⌜ Puts (now (out .entry)) at (text (fact letter year (take (ages letter) published) (getD published 10 0))) (now (out .exit)) r ⌝ }
+    ensures { λ r. ⌜ Puts (now (out .entry)) at (text (answered (Fact letter year) (now (store .entry)))) (now (out .exit)) r ⌝ }
 {
-    let n = ages(letter);
     let word = put(out, at, b"FACT\t");
     let line = put_byte(out, word, letter);
     let first = put_number(out, line, year);
-    let factors = put_numbers(out, first, &published[..n]);
-    let last = put_number(out, factors, published[10]);
+    let factors = put_factors(out, first, letter, year, store);
+    let last = put_factor(out, factors, letter, year, COMPOSITE, store);
     put_byte(out, last, 10)
+}
+
+// A tab and the published factor, for each age.
+fn put_factors(out: &mut [u8], at: usize, letter: u8, year: u64, store: &Store) -> usize
+    requires { ⌜ Room (now out) at 210 ⌝ }
+    ensures { λ r. ⌜ PutsShort (now (out .entry)) at (tabbed (map published (patternAt (now (store .entry)) letter year .factors))) (now (out .exit)) r 210 ⌝ }
+{
+    // (A slice has its length. This one is there for the contract alone.)
+    let _cells: &[u64] = store;
+    let n = ages(letter);
+    let mut next = at;
+    let mut i = 0;
+    while i < n {
+        next = put_factor(out, next, letter, year, i, store);
+        i += 1;
+    }
+    next
+}
+
+// A tab and a published factor: that of an age, from place 0 on, or the composite at place 10.
+fn put_factor(
+    out: &mut [u8],
+    at: usize,
+    letter: u8,
+    year: u64,
+    place: usize,
+    store: &Store,
+) -> usize
+    requires { ⌜ Room (now out) at 21 ⌝ }
+    ensures { λ r. ⌜ PutsShort (now (out .entry)) at (9 ∷ decimal (published (factorAt (now (store .entry)) letter year place))) (now (out .exit)) r 21 ⌝ }
+{
+    let factor = factor_in(store, letter, year, place);
+    let number = published(factor);
+    put_number(out, at, number)
 }
 
 // "TAX: letter, year, paid, opening, closing, loss."

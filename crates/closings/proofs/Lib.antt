@@ -1,4 +1,3 @@
-pub mod OpeningLimits
 pub mod RowLoops
 pub mod RowPatterns
 pub mod Turns

@@ -15,8 +15,8 @@ use lib.Seq.{getD-set-same, getD-set-other}
 use Rattle.model.specs.Letter.{ages}
 use Rattle.model.proofs.Ages.{ages-small}
 use Rattle.reserve.specs.Lists.{statedRows}
-use Rattle.state.specs.declared.book.Line.{Line}
-use Rattle.state.specs.Patterns.{factorAt, keptCount}
+use Rattle.state.specs.declared.lines.Line.{Line}
+use Rattle.state.specs.Patterns.{factorAt}
 use Rattle.closings.specs.Rows.{Paired, havePatterns, rowFactorOf, FactorsOf}
 
 -- question 13, one row more, and no more rows
@@ -56,38 +56,38 @@ module _ (unpaid tabular : List ℕ) (n first k : ℕ) (a : Asked unpaid tabular
         rest = next lt ∙ rw (eq-eqb (getD unpaid k 0 + getD tabular k 0) 0 (omega (arith, ltb-false 0 (getD unpaid k 0 + getD tabular k 0) (sym eg ∙ no-gross))), add-one);
       }
 
-  module _ (letter : ℕ) (line : Line) (en : n ≡ ages letter) (ef : first ≡ keptCount letter line) where
-    pub ask-stop : (g : Bool) → k < n → g ≡ ltb 0 (getD unpaid k 0 + getD tabular k 0) → g ≡ true → false ≡ havePatterns (keptCount letter line) (ages letter) unpaid tabular
+  module _ (letter : ℕ) (line : Line) (en : n ≡ ages letter) (ef : first ≡ line .kept) where
+    pub ask-stop : (g : Bool) → k < n → g ≡ ltb 0 (getD unpaid k 0 + getD tabular k 0) → g ≡ true → false ≡ havePatterns (line .kept) (ages letter) unpaid tabular
     ask-stop g lt eg some-gross =
         let above = ltb-true 0 (getD unpaid k 0 + getD tabular k 0) (sym eg ∙ some-gross) in
         rw (← en, ← ef, next lt, ne-eqb (getD unpaid k 0 + getD tabular k 0) 0 (λ e. omega (arith, above)))
 
-    pub ask-end : n ≤ k → true ≡ havePatterns (keptCount letter line) (ages letter) unpaid tabular
+    pub ask-end : n ≤ k → true ≡ havePatterns (line .kept) (ages letter) unpaid tabular
     ask-end le = rw (← en, ← ef, a .rest, have-end k n unpaid tabular le)
 
 -- a row's factor, by the code's counts of ages and of kept patterns
-module _ (slots : List ℕ) (letter : ℕ) (line : Line) (k n kept r : ℕ) (en : n ≡ ages letter) (ek : kept ≡ keptCount letter line) where
-  pub factor-kept : k < n → k < kept → r ≡ factorAt slots letter (line .last - k) k → r ≡ rowFactorOf slots letter line k
-  factor-kept lt lk e = rw (← en, ← ek, lt-ltb k n lt, lt-ltb k kept lk) e
+module _ (store : List ℕ) (letter : ℕ) (line : Line) (k n : ℕ) (en : n ≡ ages letter) where
+  pub factor-kept : (r : ℕ) → k < n → k < line .kept → r ≡ factorAt store letter (line .last - k) k → r ≡ rowFactorOf store letter line k
+  factor-kept r lt lk e = rw (← en, lt-ltb k n lt, lt-ltb k (line .kept) lk) e
 
-  pub factor-missing : k < n → kept ≤ k → r ≡ 0 → r ≡ rowFactorOf slots letter line k
-  factor-missing lt le e = rw (← en, ← ek, lt-ltb k n lt, le-ltb k kept le) e
+  pub factor-missing : k < n → line .kept ≤ k → 0 ≡ rowFactorOf store letter line k
+  factor-missing lt le = rw (← en, lt-ltb k n lt, le-ltb k (line .kept) le)
 
-  pub factor-prior : n ≤ k → r ≡ factorAt slots letter (line .last) 10 → r ≡ rowFactorOf slots letter line k
-  factor-prior le e = rw (← en, le-ltb k n le) e
+  pub factor-prior : (r : ℕ) → n ≤ k → r ≡ factorAt store letter (line .last) 10 → r ≡ rowFactorOf store letter line k
+  factor-prior r le e = rw (← en, le-ltb k n le) e
 
 -- the factors before place k are written
-pub record Filled (slots : List ℕ) (letter : ℕ) (line : Line) (factors : List ℕ) (k : ℕ) : Type 0 where
+pub record Filled (store : List ℕ) (letter : ℕ) (line : Line) (factors : List ℕ) (k : ℕ) : Type 0 where
   pub places : length factors ≡ 11
   pub few : ages letter ≤ 10
   pub inside : k ≤ suc (ages letter)
-  pub each : (j : ℕ) → j < k → getD factors j 0 ≡ rowFactorOf slots letter line j
+  pub each : (j : ℕ) → j < k → getD factors j 0 ≡ rowFactorOf store letter line j
 
-pub fill-start : (slots : List ℕ) (letter : ℕ) (line : Line) → Filled slots letter line (replicate 11 0) 0
-fill-start slots letter line = record { places = refl; few = ages-small letter; inside = omega arith; each = λ j lt. absurd (omega arith) }
+pub fill-start : (store : List ℕ) (letter : ℕ) (line : Line) → Filled store letter line (replicate 11 0) 0
+fill-start store letter line = record { places = refl; few = ages-small letter; inside = omega arith; each = λ j lt. absurd (omega arith) }
 
-module _ (slots : List ℕ) (letter : ℕ) (line : Line) (factors : List ℕ) (k n : ℕ) (en : n ≡ ages letter) (f : Filled slots letter line factors k) where
-  pub fill-on : (r : ℕ) → k ≤ n → r ≡ rowFactorOf slots letter line k → Filled slots letter line (set factors k r) (k + 1)
+module _ (store : List ℕ) (letter : ℕ) (line : Line) (factors : List ℕ) (k n : ℕ) (en : n ≡ ages letter) (f : Filled store letter line factors k) where
+  pub fill-on : (r : ℕ) → k ≤ n → r ≡ rowFactorOf store letter line k → Filled store letter line (set factors k r) (k + 1)
   fill-on r le e =
       let free : k < length factors = omega (arith, f .places, f .few) in
       record {
@@ -101,5 +101,5 @@ module _ (slots : List ℕ) (letter : ℕ) (line : Line) (factors : List ℕ) (k
             (eq-or-lt-of-le {n = j} {m = k} (omega arith));
       }
 
-  pub fill-end : n < k → FactorsOf slots letter line factors
+  pub fill-end : n < k → FactorsOf store letter line factors
   fill-end lt = record { each = λ j le. f .each j (omega arith) }

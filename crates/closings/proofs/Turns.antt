@@ -4,7 +4,7 @@ use mathlib.Core.Bool.{Bool, true, false, not, _&&_}
 use mathlib.Core.List.{List}
 use mathlib.Core.Path.{_≡_, refl}
 use mathlib.Core.Option.{Option, none, some}
-use Prim.Native.Nat.{ℕ, zero, suc, min}
+use Prim.Native.Nat.{ℕ, zero, suc}
 use borrow.Author.Tests.{eq-eqb, ne-eqb}
 use lib.Dec.{eqb}
 use Rattle.model.specs.Basics.{if_then_else_}
@@ -12,44 +12,44 @@ use Rattle.model.specs.Kind.{isYear}
 use Rattle.model.specs.Book as model
 use Rattle.model.specs.Book.{latest}
 use Rattle.model.specs.Question.{isYearOf, isOpen}
-use Rattle.state.specs.declared.book.Line.{Line}
-use Rattle.state.specs.Patterns.{keptBack, keptCount}
+use Rattle.state.specs.declared.lines.Line.{Line}
+use Rattle.state.specs.Patterns.{keptBack}
 use Rattle.state.specs.View.{lineOf}
 use Rattle.ledger.proofs.Conditions.{both, some-kept}
 use Rattle.closings.specs.CloseYear.{isDue}
 
 -- what the code finds
-module _ (letter year : ℕ) (line : Line) (n : ℕ) (en : n ≡ keptCount letter line) where
-  pub nothing-due : n ≡ 0 → false ≡ isDue letter line year
+module _ (year : ℕ) (line : Line) where
+  pub nothing-due : line .kept ≡ 0 → false ≡ isDue line year
   unfolding isDue
-  nothing-due z = rw (← en, z)
+  nothing-due z = rw z
 
-  module _ (z : n ≡ 0 → ⊥) where
-    pub not-last : (year ≡ line .last → ⊥) → false ≡ isDue letter line year
+  module _ (z : line .kept ≡ 0 → ⊥) where
+    pub not-last : (year ≡ line .last → ⊥) → false ≡ isDue line year
     unfolding isDue
-    not-last y = rw (← en, ne-eqb n 0 z, ne-eqb year (line .last) y)
+    not-last y = rw (ne-eqb (line .kept) 0 z, ne-eqb year (line .last) y)
 
     module _ (t : Bool) (et : t ≡ isYear (line .closed)) where
-      pub due-closed : year ≡ line .last → t ≡ true → not (eqb (line .closed) year) ≡ isDue letter line year
+      pub due-closed : year ≡ line .last → t ≡ true → not (eqb (line .closed) year) ≡ isDue line year
       unfolding isDue
-      due-closed y e = rw (← en, ne-eqb n 0 z, eq-eqb year (line .last) y, ← et, e)
+      due-closed y e = rw (ne-eqb (line .kept) 0 z, eq-eqb year (line .last) y, ← et, e)
 
-      pub due-open : year ≡ line .last → t ≡ false → true ≡ isDue letter line year
+      pub due-open : year ≡ line .last → t ≡ false → true ≡ isDue line year
       unfolding isDue
-      due-open y e = rw (← en, ne-eqb n 0 z, eq-eqb year (line .last) y, ← et, e)
+      due-open y e = rw (ne-eqb (line .kept) 0 z, eq-eqb year (line .last) y, ← et, e)
 
 -- what the model finds
-module _ (slots : List ℕ) (letter : ℕ) (line : Line) (year closing : ℕ) where
+module _ (store : List ℕ) (letter : ℕ) (line : Line) (year closing : ℕ) where
   abbrev closedBy : Bool → Option model.Closed
   closedBy t = if t then some (record { year = line .closed; closing = closing }) else none
 
-  due-by : (n : ℕ) (t : Bool) → (isYearOf (latest (keptBack slots letter n (line .last))) year && isOpen (closedBy t) year)
+  due-by : (n : ℕ) (t : Bool) → (isYearOf (latest (keptBack store letter n (line .last))) year && isOpen (closedBy t) year)
       ≡ (if eqb n 0 then false else (if eqb year (line .last) then (if t then not (eqb (line .closed) year) else true) else false))
   unfolding keptBack
   due-by zero t = refl
   due-by (suc n) true = rw (some-kept n) (both (eqb year (line .last)) (not (eqb (line .closed) year)))
   due-by (suc n) false = rw (some-kept n) (both (eqb year (line .last)) true)
 
-pub due-is : (slots : List ℕ) (letter : ℕ) (line : Line) (year : ℕ) → (isYearOf (latest (lineOf slots letter line .kept)) year && isOpen (lineOf slots letter line .closed) year) ≡ isDue letter line year
+pub due-is : (store : List ℕ) (letter : ℕ) (line : Line) (year : ℕ) → (isYearOf (latest (lineOf store letter line .kept)) year && isOpen (lineOf store letter line .closed) year) ≡ isDue line year
 unfolding lineOf isDue
-due-is slots letter line year = due-by slots letter line year (min (line .closing) 110000000000) (keptCount letter line) (isYear (line .closed))
+due-is store letter line year = due-by store letter line year (line .closing) (line .kept) (isYear (line .closed))

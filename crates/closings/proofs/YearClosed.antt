@@ -2,7 +2,7 @@
 -- Assumes nothing.
 use mathlib.Core.Bool.{Bool, true, false, _&&_}
 use mathlib.Core.List.{List, []}
-use mathlib.Core.Path.{_≡_, refl, sym, ap, _∙_}
+use mathlib.Core.Path.{_≡_, refl, sym, _∙_}
 use mathlib.Core.Option.{none, some}
 use Prim.Native.Nat.{ℕ, suc, _≤_, _<_}
 use native.Mathlib.Omega.{arith}
@@ -24,16 +24,18 @@ use Rattle.reserve.proofs.Closings.{RowFactors, closing-of-line}
 use Rattle.model.proofs.YearRows.{rows-count}
 use Rattle.reserve.proofs.Verdicts.{limits-of-year, closing-limit, year-end-of-line}
 use Rattle.state.specs.declared.book.Book.{Book}
-use Rattle.state.specs.declared.book.Line.{Line}
+use Rattle.state.specs.declared.lines.Line.{Line}
 use Rattle.ledger.specs.declared.answer.Answer.the-variants as answer
 use Rattle.ledger.specs.declared.answer.Outcome.{Outcome}
-use Rattle.state.specs.Lines.{declaredOpening, lastClosing, withLineOf, withClosingOf}
-use Rattle.state.specs.Patterns.{keptCount}
+use Rattle.state.specs.Store.{size}
+use Rattle.state.specs.Lines.{Limited, withLineOf, withClosingOf}
 use Rattle.closings.specs.Rows.{FactorsOf}
-use Rattle.state.specs.View.{lineOf, view}
-use Rattle.ledger.specs.Answer.{nothing, acceptedOf}
-use Rattle.ledger.specs.Does.{slotsAfter, Settled}
+use Rattle.state.specs.View.{lineOf}
+use Rattle.ledger.specs.Answer.{acceptedOf}
+use Rattle.ledger.specs.Does.{bookSettled, storeSettled, Settled}
 use Rattle.closings.specs.CloseYear.{openingOf, Passed}
+use Rattle.state.proofs.Limited.{opening-small, closing-small, line-limited, closing-limited}
+use Rattle.state.proofs.KeptYears.{kept-year}
 use Rattle.state.proofs.Views.{line-is, lines-put}
 use Rattle.closings.proofs.RowPatterns.{row-factors-are}
 use Rattle.closings.proofs.YearAsked.{due-kept, due-last, passes}
@@ -44,23 +46,27 @@ opening-by true true year declared closed e = refl
 opening-by true false year declared closed e = refl
 opening-by false t year declared closed e = let z : _≡_ {A = ℕ} 0 1 = cc in absurd (omega arith)
 
-opening-is : (slots : List ℕ) (letter : ℕ) (line : Line) → line .declared ≡ true → opening (lineOf slots letter line) ≡ openingOf line
+module _ (line : Line) (t : Bool) (et : t ≡ isYear (line .closed)) where
+  pub opening-closed : t ≡ true → line .closing ≡ openingOf line
+  opening-closed e = rw (← et, e)
+
+  pub opening-declared : t ≡ false → line .opening ≡ openingOf line
+  opening-declared e = rw (← et, e)
+
+opening-is : (store : List ℕ) (letter : ℕ) (line : Line) → line .declared ≡ true → opening (lineOf store letter line) ≡ openingOf line
 unfolding lineOf
-opening-is slots letter line d = opening-by (line .declared) (isYear (line .closed)) (line .closed) (declaredOpening line) (lastClosing line) d
+opening-is store letter line d = opening-by (line .declared) (isYear (line .closed)) (line .closed) (line .opening) (line .closing) d
 
-small-by : (t : Bool) (a b : ℕ) → a ≤ 110000000000 → b ≤ 110000000000 → (if t then a else b) ≤ 110000000000
+small-by : (t : Bool) (a b : ℕ) → a ≤ 110000000000 → b ≤ 100000000000 → (if t then a else b) ≤ 110000000000
 small-by true a b ha hb = ha
-small-by false a b ha hb = hb
-
-opening-small : (line : Line) → openingOf line ≤ 110000000000
-opening-small line = small-by (isYear (line .closed)) (lastClosing line) (declaredOpening line) (omega arith) (omega arith)
+small-by false a b ha hb = omega arith
 
 -- the line with the year closed
-closed-line : (slots : List ℕ) (letter : ℕ) (line : Line) (year amount : ℕ) → isYear year ≡ true → amount ≤ 110000000000 → lineOf slots letter (withClosingOf line year amount) ≡ withClosing (lineOf slots letter line) year amount
-unfolding lineOf keptCount
-closed-line slots letter line year amount y le = rw y (ap (withClosing (lineOf slots letter line) year) (omega arith))
+closed-line : (store : List ℕ) (letter : ℕ) (line : Line) (year amount : ℕ) → isYear year ≡ true → lineOf store letter (withClosingOf line year amount) ≡ withClosing (lineOf store letter line) year amount
+unfolding lineOf
+closed-line store letter line year amount y = rw y
 
-module _ (book : Book) (line : Line) (letter year : ℕ) (paid : List ℤ) (unpaid tabular : List ℕ) (pre : Passed book line letter year paid unpaid tabular) where
+module _ (store : List ℕ) (line : Line) (letter year : ℕ) (paid : List ℤ) (unpaid tabular : List ℕ) (pre : Passed store line letter year paid unpaid tabular) where
   abbrev rows : List Row
   rows = rowsOf paid unpaid tabular
 
@@ -73,18 +79,27 @@ module _ (book : Book) (line : Line) (letter year : ℕ) (paid : List ℤ) (unpa
   has-limits : hasLimits paid unpaid tabular ≡ true
   has-limits = and-right (isYear year) (hasLimits paid unpaid tabular) limits
 
-  pub keeps : 0 < keptCount letter line
-  keeps = due-kept letter year line (pre .turned .due)
+  limited : Limited letter line
+  limited = line-limited store letter line (pre .turned .here)
 
-  module _ (slots factors : List ℕ) (are : FactorsOf slots letter line factors) where
+  keeps : 0 < line .kept
+  keeps = due-kept year line (pre .turned .due)
+
+  pub dated : 1987 ≤ line .last
+  dated = kept-year letter line limited keeps
+
+  opening-limit : openingOf line ≤ 110000000000
+  opening-limit = small-by (isYear (line .closed)) (line .closing) (line .opening) (closing-small letter line limited) (opening-small letter line limited)
+
+  module _ (factors : List ℕ) (are : FactorsOf store letter line factors) where
     abbrev shown : model.Line
-    shown = lineOf slots letter line
+    shown = lineOf store letter line
 
     abbrev amount : ℕ
     amount = closing letter shown year rows
 
     row-factors : RowFactors letter shown year factors (suc (ages letter))
-    row-factors = rw (due-last letter year line (pre .turned .due)) (row-factors-are slots letter line factors are (pre .turned .sound .letter) keeps)
+    row-factors = rw (due-last year line (pre .turned .due)) (row-factors-are store letter line limited keeps factors are)
 
     amount-small : amount ≤ 110000000000
     amount-small =
@@ -92,16 +107,19 @@ module _ (book : Book) (line : Line) (letter year : ℕ) (paid : List ℤ) (unpa
         (closing-limit letter paid unpaid tabular (pre .turned .sound .lengths) has-limits factors)
 
     end-is : yearEnd letter paid unpaid tabular factors (openingOf line) ≡ record { verdict = Fine; paid = paidTotal rows; closing = amount; loss = loss (paidTotal rows) amount (openingOf line) }
-    end-is = year-end-of-line letter paid unpaid tabular (pre .turned .sound .lengths) has-limits factors shown year (openingOf line) (pre .turned .sound .letter) (opening-small line) row-factors
+    end-is = year-end-of-line letter paid unpaid tabular (pre .turned .sound .lengths) has-limits factors shown year (openingOf line) (pre .turned .sound .letter) opening-limit row-factors
 
-    pub year-closed : length (book .lines) ≡ 15 → (o : ℕ) → o ≡ openingOf line → (end : YearEnd) → end ≡ yearEnd letter paid unpaid tabular factors o
-        → (closed : Line) → closed ≡ withClosingOf line year (end .closing) → (later : Book) → later ≡ withLineOf book letter closed
-        → (p : ℤ) → p ≡ end .paid → (v : ℤ) → v ≡ end .loss → (r : Outcome) → r ≡ acceptedOf later (answer.Tax letter year p o (end .closing) v) nothing → Settled (view book slots) (closeYear letter year paid unpaid tabular) slots r slots
-    unfolding accept slotsAfter
-    year-closed n o eo end ee closed ec later el p ep v ev r er =
-        rw (passes book line letter year paid unpaid tabular pre slots, er, ep, ev, el, ec, ee, eo, end-is)
+    closed-limited : Limited letter (withClosingOf line year amount)
+    closed-limited = closing-limited letter line limited year is-year amount keeps (due-last year line (pre .turned .due)) amount-small
+
+    pub year-closed : (book : Book) → length store ≡ size → (o : ℕ) → o ≡ openingOf line → (end : YearEnd) → end ≡ yearEnd letter paid unpaid tabular factors o
+        → (closed : Line) → closed ≡ withClosingOf line year (end .closing) → (later : List ℕ) → later ≡ withLineOf store letter closed
+        → (p : ℤ) → p ≡ end .paid → (v : ℤ) → v ≡ end .loss → (r : Outcome) → r ≡ acceptedOf book (answer.Tax letter year p o (end .closing) v) → Settled book (closeYear letter year paid unpaid tabular) store r later
+    unfolding accept bookSettled storeSettled
+    year-closed book n o eo end ee closed ec later el p ep v ev r er =
+        rw (passes store line letter year paid unpaid tabular pre book, er, ep, ev, el, ec, ee, eo, end-is)
         record {
-          outcome = rw (lines-put (book .lines) slots slots letter (withClosingOf line year amount) (pre .turned .sound .letter) n (λ other y c differ. refl), closed-line slots letter line year amount is-year amount-small, line-is book slots letter, ← (pre .turned .here), opening-is slots letter line (pre .turned .declared));
-          lent = refl;
-          whole = refl;
+          outcome = rw (lines-put store letter (withClosingOf line year amount) (pre .turned .sound .letter) n closed-limited, closed-line store letter line year amount is-year, line-is store letter line (pre .turned .here), opening-is store letter line (pre .turned .declared));
+          own = refl;
+          lent = rw (line-is store letter line (pre .turned .here), ← (pre .turned .here));
         }

@@ -1,4 +1,4 @@
--- What YEAR's questions ask of the code's line, and what an accepted one leaves.
+-- What YEAR's questions ask of the code's line.
 -- Assumes nothing: these are definitions.
 use mathlib.Core.Bool.{Bool, true, false, not}
 use mathlib.Core.List.{List}
@@ -11,30 +11,28 @@ use Rattle.model.specs.Kind.{isYear}
 use Rattle.model.specs.Letter.{ages}
 use Rattle.model.specs.Call.{closeYear}
 use Rattle.model.specs.Question.{Sound}
-use Rattle.state.specs.declared.book.Book.{Book}
-use Rattle.state.specs.declared.book.Line.{Line}
-use Rattle.state.specs.Lines.{lineAt, declaredOpening, lastClosing}
-use Rattle.state.specs.Patterns.{keptCount}
+use Rattle.state.specs.declared.lines.Line.{Line}
+use Rattle.state.specs.Lines.{lineAt}
 use Rattle.closings.specs.Rows.{havePatterns}
 
 -- question 10
-unfoldable pub isDue : ℕ → Line → ℕ → Bool
-isDue letter line year =
-    if eqb (keptCount letter line) 0 then false else
+unfoldable pub isDue : Line → ℕ → Bool
+isDue line year =
+    if eqb (line .kept) 0 then false else
     (if eqb year (line .last) then (if isYear (line .closed) then not (eqb (line .closed) year) else true) else false)
 
 -- "Opening is the last closing, or the declared opening."
 abbrev pub openingOf : Line → ℕ
-openingOf line = if isYear (line .closed) then lastClosing line else declaredOpening line
+openingOf line = if isYear (line .closed) then line .closing else line .opening
 
 -- a YEAR that questions 3 to 10 let through
-pub record Turned (book : Book) (line : Line) (letter year : ℕ) (paid : List ℤ) (unpaid tabular : List ℕ) : Type 0 where
+pub record Turned (store : List ℕ) (line : Line) (letter year : ℕ) (paid : List ℤ) (unpaid tabular : List ℕ) : Type 0 where
   pub sound : Sound (closeYear letter year paid unpaid tabular)
-  pub here : line ≡ lineAt book letter
+  pub here : line ≡ lineAt store letter
   pub declared : line .declared ≡ true
-  pub due : isDue letter line year ≡ true
+  pub due : isDue line year ≡ true
 
 -- and question 13
-pub record Passed (book : Book) (line : Line) (letter year : ℕ) (paid : List ℤ) (unpaid tabular : List ℕ) : Type 0 where
-  pub turned : Turned book line letter year paid unpaid tabular
-  pub patterns : havePatterns (keptCount letter line) (ages letter) unpaid tabular ≡ true
+pub record Passed (store : List ℕ) (line : Line) (letter year : ℕ) (paid : List ℤ) (unpaid tabular : List ℕ) : Type 0 where
+  pub turned : Turned store line letter year paid unpaid tabular
+  pub patterns : havePatterns (line .kept) (ages letter) unpaid tabular ≡ true

@@ -10,8 +10,8 @@ use Rattle.model.specs.Basics.{if_then_else_, all}
 use Rattle.model.specs.Letter.{ages}
 use Rattle.model.specs.Row.{gross}
 use Rattle.reserve.specs.Lists.{statedRows}
-use Rattle.state.specs.declared.book.Line.{Line}
-use Rattle.state.specs.Patterns.{factorAt, keptCount}
+use Rattle.state.specs.declared.lines.Line.{Line}
+use Rattle.state.specs.Patterns.{factorAt}
 
 -- a stated and a disclosed amount for each row
 pub record Paired (letter : ℕ) (unpaid tabular : List ℕ) : Type 0 where
@@ -24,10 +24,10 @@ havePatterns kept n unpaid tabular = all (λ row. eqb (gross row) 0) (drop kept 
 
 -- the factor of the row at place k: of a pattern that is kept, or 0; the prior row's is a composite
 abbrev pub rowFactorOf : List ℕ → ℕ → Line → ℕ → ℕ
-rowFactorOf slots letter line k =
+rowFactorOf store letter line k =
     if ltb k (ages letter)
-    then (if ltb k (keptCount letter line) then factorAt slots letter (line .last - k) k else 0)
-    else factorAt slots letter (line .last) 10
+    then (if ltb k (line .kept) then factorAt store letter (line .last - k) k else 0)
+    else factorAt store letter (line .last) 10
 
-pub record FactorsOf (slots : List ℕ) (letter : ℕ) (line : Line) (factors : List ℕ) : Type 0 where
-  pub each : (k : ℕ) → k < suc (ages letter) → getD factors k 0 ≡ rowFactorOf slots letter line k
+pub record FactorsOf (store : List ℕ) (letter : ℕ) (line : Line) (factors : List ℕ) : Type 0 where
+  pub each : (k : ℕ) → k < suc (ages letter) → getD factors k 0 ≡ rowFactorOf store letter line k

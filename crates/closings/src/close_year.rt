@@ -1,5 +1,4 @@
 // "YEAR, letter, year, then paid, unpaid, tabular for each age, prior row last"
-use crate::opening::opening_of;
 use crate::rows::have_patterns;
 use crate::rows::row_factors;
 use kinds::year::is_year;
@@ -13,38 +12,36 @@ use reserve::questions::has_lengths;
 use reserve::questions::has_limits;
 use reserve::year_end::year_end;
 use state::book::Book;
-use state::book::Line;
-use state::book::Patterns;
+use state::lines::Line;
+use state::lines::keep_line;
 use state::lines::line_of;
-use state::lines::with_line;
-use state::patterns::kept_count;
+use state::store::Store;
 ghost use mathlib.Core.Bool.{true};
 ghost use mathlib.Core.Path.{_≡_};
 ghost use Rattle.model.specs.Call.{closeYear};
 ghost use Rattle.model.specs.Question.{Sound};
 ghost use Rattle.model.specs.Step.{asNumbers};
-ghost use Rattle.state.specs.View.{view};
 ghost use Rattle.ledger.specs.Does.{Does, Settled};
 ghost use Rattle.state.specs.Lines.{withClosingOf};
-ghost use Rattle.closings.specs.CloseYear.{isDue, Turned, Passed};
+ghost use Rattle.closings.specs.CloseYear.{isDue, openingOf, Turned, Passed};
 
 // Questions 3, 4 and 6, and on.
 pub fn close_year(
     book: Book,
-    patterns: &Patterns,
+    store: &mut Store,
     letter: u8,
     year: u64,
     paid: &[i64],
     unpaid: &[u64],
     tabular: &[u64],
 ) -> Outcome
-    ensures { λ r. ⌜ Does (view book (now (patterns .entry))) (asNumbers (closeYear letter year (now (paid .entry)) (now (unpaid .entry)) (now (tabular .entry)))) (now (patterns .entry)) r (now (patterns .entry)) ⌝ }
+    ensures { λ r. ⌜ Does book (asNumbers (closeYear letter year (now (paid .entry)) (now (unpaid .entry)) (now (tabular .entry)))) (now (store .entry)) r (now (store .exit)) ⌝ }
 {
     if is_covered(letter) {
         if has_lengths(letter, paid, unpaid, tabular) {
             if is_year(year) {
                 if has_limits(paid, unpaid, tabular) {
-                    return ask_declared(book, patterns, letter, year, paid, unpaid, tabular);
+                    return ask_declared(book, store, letter, year, paid, unpaid, tabular);
                 }
                 return refuse(book, Refusal::OutsideLimits);
             }
@@ -58,7 +55,7 @@ pub fn close_year(
 // "8. PATT, YEAR: is the line declared?" "10. .. YEAR: is it the year of the last pattern, not yet closed?", and on.
 fn ask_declared(
     book: Book,
-    patterns: &Patterns,
+    store: &mut Store,
     letter: u8,
     year: u64,
     paid: &[i64],
@@ -66,12 +63,12 @@ fn ask_declared(
     tabular: &[u64],
 ) -> Outcome
     requires { ⌜ Sound (closeYear letter year (now paid) (now unpaid) (now tabular)) ⌝ }
-    ensures { λ r. ⌜ Settled (view book (now (patterns .entry))) (closeYear letter year (now (paid .entry)) (now (unpaid .entry)) (now (tabular .entry))) (now (patterns .entry)) r (now (patterns .entry)) ⌝ }
+    ensures { λ r. ⌜ Settled book (closeYear letter year (now (paid .entry)) (now (unpaid .entry)) (now (tabular .entry))) (now (store .entry)) r (now (store .exit)) ⌝ }
 {
-    let line = line_of(book, letter);
+    let line = line_of(store, letter);
     if line.declared {
-        if is_due(letter, line, year) {
-            return ask_patterns(book, patterns, line, letter, year, paid, unpaid, tabular);
+        if is_due(line, year) {
+            return ask_patterns(book, store, line, letter, year, paid, unpaid, tabular);
         }
         return refuse(book, Refusal::OutOfTurn);
     }
@@ -79,10 +76,10 @@ fn ask_declared(
 }
 
 // "is it the year of the last pattern, not yet closed?"
-fn is_due(letter: u8, line: Line, year: u64) -> bool
-    ensures { λ r. ⌜ r ≡ isDue letter line year ⌝ }
+fn is_due(line: Line, year: u64) -> bool
+    ensures { λ r. ⌜ r ≡ isDue line year ⌝ }
 {
-    if kept_count(letter, line) == 0 {
+    if line.kept == 0 {
         return false;
     }
     if year == line.last {
@@ -97,7 +94,7 @@ fn is_due(letter: u8, line: Line, year: u64) -> bool
 // "13. YEAR: has every age row with gross above 0 a kept pattern?", and the year end.
 fn ask_patterns(
     book: Book,
-    patterns: &Patterns,
+    store: &mut Store,
     line: Line,
     letter: u8,
     year: u64,
@@ -105,11 +102,11 @@ fn ask_patterns(
     unpaid: &[u64],
     tabular: &[u64],
 ) -> Outcome
-    requires { ⌜ Turned book line letter year (now paid) (now unpaid) (now tabular) ⌝ }
-    ensures { λ r. ⌜ Settled (view book (now (patterns .entry))) (closeYear letter year (now (paid .entry)) (now (unpaid .entry)) (now (tabular .entry))) (now (patterns .entry)) r (now (patterns .entry)) ⌝ }
+    requires { ⌜ Turned (now store) line letter year (now paid) (now unpaid) (now tabular) ⌝ }
+    ensures { λ r. ⌜ Settled book (closeYear letter year (now (paid .entry)) (now (unpaid .entry)) (now (tabular .entry))) (now (store .entry)) r (now (store .exit)) ⌝ }
 {
     if have_patterns(letter, line, unpaid, tabular) {
-        return end_year(book, patterns, line, letter, year, paid, unpaid, tabular);
+        return end_year(book, store, line, letter, year, paid, unpaid, tabular);
     }
     refuse(book, Refusal::NoPattern)
 }
@@ -117,7 +114,7 @@ fn ask_patterns(
 // The closing kept, and the tax-basis loss.
 fn end_year(
     book: Book,
-    patterns: &Patterns,
+    store: &mut Store,
     line: Line,
     letter: u8,
     year: u64,
@@ -125,16 +122,16 @@ fn end_year(
     unpaid: &[u64],
     tabular: &[u64],
 ) -> Outcome
-    requires { ⌜ Passed book line letter year (now paid) (now unpaid) (now tabular) ⌝ }
-    ensures { λ r. ⌜ Settled (view book (now (patterns .entry))) (closeYear letter year (now (paid .entry)) (now (unpaid .entry)) (now (tabular .entry))) (now (patterns .entry)) r (now (patterns .entry)) ⌝ }
+    requires { ⌜ Passed (now store) line letter year (now paid) (now unpaid) (now tabular) ⌝ }
+    ensures { λ r. ⌜ Settled book (closeYear letter year (now (paid .entry)) (now (unpaid .entry)) (now (tabular .entry))) (now (store .entry)) r (now (store .exit)) ⌝ }
 {
-    let factors = row_factors(patterns, letter, line);
+    let factors = row_factors(store, letter, line);
     let opening = opening_of(line);
     let end = year_end(letter, paid, unpaid, tabular, &factors, opening);
     let closing = end.closing;
-    let later = with_line(book, letter, with_closing(line, year, closing));
+    keep_line(store, letter, with_closing(line, year, closing));
     accept(
-        later,
+        book,
         Answer::Tax {
             letter,
             year,
@@ -143,8 +140,17 @@ fn end_year(
             closing,
             loss: end.loss,
         },
-        [0; 11],
     )
+}
+
+// "Opening is the last closing, or the declared opening."
+fn opening_of(line: Line) -> u64
+    ensures { λ r. ⌜ r ≡ openingOf line ⌝ }
+{
+    if is_year(line.closed) {
+        return line.closing;
+    }
+    line.opening
 }
 
 // The line with one more year closed.

@@ -1,4 +1,3 @@
 // YEAR with numbers: a line's year closed.
 pub mod close_year;
-mod opening;
 mod rows;

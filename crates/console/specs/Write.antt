@@ -6,7 +6,7 @@ use Prim.Native.Nat.{ℕ, _≤_}
 use lib.ListN.{length, take}
 use Rattle.model.specs.Answer.{doneText}
 use Rattle.pieces.specs.declared.feed.Run.{Run}
-use Rattle.pieces.specs.Progress.{closed}
+use Rattle.pieces.specs.Progress.{atEnd}
 use Rattle.pieces.specs.Feed.{progressOf}
 
 -- the first n bytes of a buffer are a text
@@ -16,7 +16,7 @@ pub record Starts (out : List ℕ) (n : ℕ) (text : List ℕ) : Type 0 where
 
 -- the end of input: the answer to the last line, if one is open, and then DONE with the counts of the book that it leaves
 abbrev pub lastAnswer : Run → List ℕ → List ℕ
-lastAnswer run slots = closed (progressOf run slots) .written
+lastAnswer run store = atEnd (progressOf run store) .written
 
 abbrev pub lastCounts : Run → List ℕ → List ℕ
-lastCounts run slots = doneText (closed (progressOf run slots) .book .accepted) (closed (progressOf run slots) .book .refused)
+lastCounts run store = doneText (atEnd (progressOf run store) .book .accepted) (atEnd (progressOf run store) .book .refused)

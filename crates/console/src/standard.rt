@@ -9,13 +9,13 @@ use pieces::feed::close;
 use pieces::feed::done;
 use pieces::feed::feed;
 use pieces::feed::start;
-use state::book::Patterns;
+use state::store::Store;
 ghost use Rattle.io.specs.Counts.{Counts};
 ghost use Rattle.console.specs.Take.{TakesPiece, TakesPart, Led};
 
 pub fn run() {
-    let mut patterns = [0u64; 1650];
-    let mut so_far = start();
+    let mut store = [0u64; 1853];
+    let mut so_far = start(&mut store);
     let mut piece = io::large_buffer();
     let mut out = io::large_buffer();
     // A proved loop has to end: no run makes so many turns.
@@ -25,7 +25,7 @@ pub fn run() {
         if n == 0 {
             break;
         }
-        let taken = take_piece(so_far, &mut patterns, &piece[..n], &mut out);
+        let taken = take_piece(so_far, &mut store, &piece[..n], &mut out);
         if taken.written {
             let later = taken.run;
             so_far = later;
@@ -34,7 +34,7 @@ pub fn run() {
         }
         turns -= 1;
     }
-    finish(so_far, &mut patterns, &mut out);
+    finish(so_far, &mut store, &mut out);
 }
 
 // How many bytes were read, none at the end of input. A read that was only interrupted is made again.
@@ -60,13 +60,13 @@ struct Taken {
 }
 
 // The whole piece, part after part, unless a write fails.
-fn take_piece(run: Run, patterns: &mut Patterns, piece: &[u8], out: &mut [u8; 65536]) -> Taken
-    ensures { λ r. ⌜ TakesPiece run (now (patterns .entry)) (now (piece .entry)) r (now (patterns .exit)) ⌝ }
+fn take_piece(run: Run, store: &mut Store, piece: &[u8], out: &mut [u8; 65536]) -> Taken
+    ensures { λ r. ⌜ TakesPiece run (now (store .entry)) (now (piece .entry)) r (now (store .exit)) ⌝ }
 {
     let mut last = run;
     let mut at = 0;
     while at < piece.len() {
-        let part = take_part(last, patterns, &piece[at..], out);
+        let part = take_part(last, store, &piece[at..], out);
         let later = part.run;
         last = later;
         at += part.taken;
@@ -86,13 +86,13 @@ fn take_piece(run: Run, patterns: &mut Patterns, piece: &[u8], out: &mut [u8; 65
 }
 
 // As much of a piece as its answers have room for.
-fn take_part(run: Run, patterns: &mut Patterns, piece: &[u8], out: &mut [u8; 65536]) -> Taken
-    ensures { λ r. ⌜ TakesPart run (now (patterns .entry)) (now (piece .entry)) r (now (patterns .exit)) ⌝ }
+fn take_part(run: Run, store: &mut Store, piece: &[u8], out: &mut [u8; 65536]) -> Taken
+    ensures { λ r. ⌜ TakesPart run (now (store .entry)) (now (piece .entry)) r (now (store .exit)) ⌝ }
 {
-    let lent = *patterns;
-    let fed = feed(run, patterns, piece, out);
+    let before = *store;
+    let fed = feed(run, store, piece, out);
     let taken = fed.taken;
-    let written = write_answers(run, &lent, &piece[..taken], out, fed.put);
+    let written = write_answers(run, &before, &piece[..taken], out, fed.put);
     let later = fed.run;
     Taken {
         run: later,
@@ -102,14 +102,14 @@ fn take_part(run: Run, patterns: &mut Patterns, piece: &[u8], out: &mut [u8; 655
 }
 
 // The last line, if one is open, and DONE.
-fn finish(run: Run, patterns: &mut Patterns, out: &mut [u8; 65536])
-    requires { ⌜ Led run (now patterns) ⌝ }
+fn finish(run: Run, store: &mut Store, out: &mut [u8; 65536])
+    requires { ⌜ Led run (now store) ⌝ }
 {
-    let lent = *patterns;
-    let last = close(run, patterns, out);
-    if write_last(run, &lent, out, last.next) {
+    let before = *store;
+    let last = close(run, store, out);
+    if write_last(run, &before, out, last.next) {
         let book = last.book;
         let n = done(book, out);
-        write_done(run, &lent, out, n);
+        write_done(run, &before, out, n);
     }
 }

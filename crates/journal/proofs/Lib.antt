@@ -1,3 +1,4 @@
+pub mod Columns
 pub mod InTurn
 pub mod LineQuestions
 pub mod LineRead

@@ -1,32 +1,40 @@
--- A record's bytes: questions 1 to 6 by the reader, and then those of the call with numbers.
+-- A record's bytes: questions 1 to 5 by the reader, and then those of the call with numbers.
 -- Assumes nothing.
 use mathlib.Core.Bool.{Bool, true, false}
 use mathlib.Core.List.{List, [], _∷_, _++_}
-use mathlib.Core.Path.{_≡_, refl, sym, _∙_}
-use mathlib.Core.Option.{Option, some}
+use mathlib.Core.Path.{_≡_, refl, sym, ap, _∙_}
+use mathlib.Core.Option.{Option, none, some}
 use Prim.Native.Nat.{ℕ}
 use Rattle.model.specs.Basics.{if_then_else_}
 use Rattle.model.specs.Book as model
 use Rattle.model.specs.Call.{Call}
-use Rattle.model.specs.Question.{lineQuestions, bookQuestions, firstNo}
+use Rattle.model.specs.Question.{lineQuestions, callQuestions, bookQuestions, firstNo}
 use Rattle.model.specs.History.{orElse}
 use Rattle.model.specs.Step.{Request, asBytes, asNumbers, asked, questions, callOf, step}
-use Rattle.record.specs.Request.{refusedAt, asks, readOf}
-use Rattle.record.proofs.Answers.{refused-is, asked-is, asked-sound}
+use Rattle.record.specs.Asks.{Asks}
 use Rattle.state.specs.declared.book.Book.{Book}
 use Rattle.state.specs.View.{view}
 use Rattle.refusal.specs.declared.Refusal.{Refusal}
 use Rattle.ledger.specs.declared.answer.Outcome.{Outcome}
 use Rattle.ledger.specs.Answer.{refusedOf}
 use Rattle.refusal.specs.Number.{numberOf}
-use Rattle.ledger.specs.Does.{Does}
-use Rattle.ledger.proofs.Settling.{does, refused, goes-on}
+use Rattle.ledger.specs.Does.{bookSettled, storeSettled, Settles, Does}
+use Rattle.ledger.proofs.Settling.{does, refused}
 
--- two requests with the same call and the same question answered no
-same-does : (book : model.Book) (request other : Request) (slots : List ℕ) (r : Outcome) (later : List ℕ) → firstNo (questions book request) ≡ firstNo (questions book other) → asked request ≡ asked other → Does book request slots r later → Does book other slots r later
+-- a refusal does not look at the call
+same-settles : (first : Option ℕ) (book : Book) (call other : Call) (store : List ℕ) (r : Outcome) (later : List ℕ) → (first ≡ none → call ≡ other) → Settles first book call store r later → Settles first book other store r later
+unfolding bookSettled storeSettled
+same-settles none book call other store r later e s = rw (e refl) at s
+same-settles (some question) book call other store r later e s = record { outcome = s .outcome; own = s .own; lent = s .lent }
+
+-- two requests with the same question answered no, and with the same call where none is
+same-does : (book : Book) (request other : Request) (store : List ℕ) (r : Outcome) (later : List ℕ) → firstNo (questions (view book store) request) ≡ firstNo (questions (view book store) other) → (firstNo (questions (view book store) other) ≡ none → asked request ≡ asked other)
+    → Does book request store r later → Does book other store r later
 unfolding step
-same-does book request other slots r later e a h =
-    record { outcome = rw (← e, ← a) (h .outcome); lent = rw (← e, ← a) (h .lent); whole = rw (← e, ← a) (h .whole) }
+same-does book request other store r later e a h =
+    let first : Option ℕ = firstNo (questions (view book store) other) in
+    let s : Settles first book (asked request) store r later = rw (← e) record { outcome = h .outcome; own = h .own; lent = h .lent } in
+    does book other store r later first refl (same-settles first book (asked request) (asked other) store r later a s)
 
 -- the first no of two tables, one after the other
 either : (t : Bool) (n : ℕ) (a b c : Option ℕ) → a ≡ orElse b c → (if t then a else some n) ≡ orElse (if t then b else some n) c
@@ -37,21 +45,37 @@ first-of-both : (qs more : List (ℕ × Bool)) → firstNo (qs ++ more) ≡ orEl
 first-of-both [] more = refl
 first-of-both (q ∷ qs) more = either (q .1) (q .0) (firstNo (qs ++ more)) (firstNo qs) (firstNo more) (first-of-both qs more)
 
-module _ (line : List ℕ) (slots : List ℕ) (r : Outcome) where
-  pub line-refused : (book : Book) (refusal : Refusal) → readOf line ≡ refusedAt (numberOf refusal) → r ≡ refusedOf book refusal → Does (view book slots) (asBytes line) slots r slots
-  unfolding questions
-  line-refused book refusal e er =
-      does (view book slots) (asBytes line) slots r slots (some (numberOf refusal))
-      (rw (first-of-both (lineQuestions line) (bookQuestions (view book slots) (callOf line)), refused-is line (numberOf refusal) e))
-      (refused book refusal (some (numberOf refusal)) (callOf line) slots r refl er)
+first-none : (a b : Option ℕ) → orElse a b ≡ none → a ≡ none
+first-none none b e = refl
+first-none (some n) b e = e
 
-  line-goes-on : (book : model.Book) (call : Call) → readOf line ≡ asks call → firstNo (questions book (asBytes line)) ≡ firstNo (bookQuestions book call)
-  unfolding questions
-  line-goes-on book call e =
-      let a = asked-is line call e in
-      rw (first-of-both (lineQuestions line) (bookQuestions book (callOf line)), a .0, a .1)
+or-same : (a b c : Option ℕ) → (a ≡ none → b ≡ c) → orElse a b ≡ orElse a c
+or-same none b c e = e refl
+or-same (some n) b c e = refl
 
-  pub line-asks : (book : model.Book) (call : Call) (later : List ℕ) → readOf line ≡ asks call → Does book (asNumbers call) slots r later → Does book (asBytes line) slots r later
-  line-asks book call later e h =
-      same-does book (asNumbers call) (asBytes line) slots r later
-      (goes-on book call (asked-sound line call e) ∙ sym (line-goes-on book call e)) (asked-is line call e .1) h
+module _ (line : List ℕ) (book : Book) (store : List ℕ) (r : Outcome) where
+  pub line-refused : (refusal : Refusal) → firstNo (lineQuestions line) ≡ some (numberOf refusal) → r ≡ refusedOf book refusal → Does book (asBytes line) store r store
+  unfolding questions
+  line-refused refusal e er =
+      does book (asBytes line) store r store (some (numberOf refusal))
+      (rw (first-of-both (lineQuestions line) (bookQuestions (view book store) (callOf line)), e))
+      (refused book refusal (some (numberOf refusal)) (callOf line) store r refl er)
+
+  module _ (call : Call) (a : Asks line call) where
+    abbrev shown : model.Book
+    shown = view book store
+
+    line-first : firstNo (questions shown (asBytes line)) ≡ orElse (firstNo (lineQuestions line)) (firstNo (bookQuestions shown (callOf line)))
+    unfolding questions
+    line-first = first-of-both (lineQuestions line) (bookQuestions shown (callOf line))
+
+    call-first : firstNo (questions shown (asNumbers call)) ≡ orElse (firstNo (lineQuestions line)) (firstNo (bookQuestions shown call))
+    unfolding questions
+    call-first = rw (a .first) (first-of-both (callQuestions call) (bookQuestions shown call))
+
+    pub line-asks : (later : List ℕ) → Does book (asNumbers call) store r later → Does book (asBytes line) store r later
+    line-asks later h =
+        same-does book (asNumbers call) (asBytes line) store r later
+        (call-first ∙ or-same (firstNo (lineQuestions line)) (firstNo (bookQuestions shown call)) (firstNo (bookQuestions shown (callOf line))) (λ e. ap (λ (c : Call). firstNo (bookQuestions shown c)) (a .same e)) ∙ sym line-first)
+        (λ e. a .same (first-none (firstNo (lineQuestions line)) (firstNo (bookQuestions shown (callOf line))) (sym line-first ∙ e)))
+        h

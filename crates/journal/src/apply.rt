@@ -1,4 +1,6 @@
 // One record, by the bytes of its line.
+use crate::column::column;
+use crate::column::payments;
 use closings::close_year::close_year;
 use ledger::answer::Outcome;
 use ledger::declare::declare;
@@ -8,65 +10,63 @@ use letters::letter::ages;
 use patterns::add_pattern::add_pattern;
 use record::read::read;
 use record::request::Asked;
-use record::request::Request;
 use state::book::Book;
-use state::book::Patterns;
+use state::store::Store;
+ghost use Prim.Native.Nat.{suc};
+ghost use Rattle.model.specs.Letter.{ages};
 ghost use Rattle.model.specs.Step.{asBytes, asNumbers};
-ghost use Rattle.record.specs.Request.{patternCall, yearCall};
-ghost use Rattle.state.specs.View.{view};
+ghost use Rattle.record.specs.Asks.{patternOf, yearOf, Low};
 ghost use Rattle.ledger.specs.Does.{Does};
 
-// "Questions put to a record, in this order": 1 to 6 by the reader, which answers a call with numbers, and then those of the call.
-pub fn apply(book: Book, patterns: &mut Patterns, line: &[u8]) -> Outcome
-    ensures { λ r. ⌜ Does (view book (now (patterns .entry))) (asBytes (now (line .entry))) (now (patterns .entry)) r (now (patterns .exit)) ⌝ }
+// "Questions put to a record, in this order": 1 to 5 by the reader, which leaves the line's numbers in two lists, and then those of the call that they make.
+pub fn apply(book: Book, store: &mut Store, line: &[u8]) -> Outcome
+    ensures { λ r. ⌜ Does book (asBytes (now (line .entry))) (now (store .entry)) r (now (store .exit)) ⌝ }
 {
-    let request = read(line);
+    let mut minus = [false; 62];
+    let mut sizes = [0u64; 62];
+    let request = read(line, &mut minus, &mut sizes);
+    let letter = request.letter;
     let asked = request.asked;
     match asked {
         Asked::Refused(refusal) => refuse(book, refusal),
-        Asked::Declare => declare(book, request.letter, request.opening),
-        Asked::SetRate => {
-            let months = request.months;
-            set_rate(book, request.year, &months)
-        }
-        Asked::AddPattern => apply_pattern(book, patterns, request),
-        Asked::CloseYear => apply_year(book, patterns, request),
+        Asked::Declare => declare(book, store, letter, sizes[2]),
+        Asked::SetRate => set_rate(book, store, sizes[1], &sizes[2..62]),
+        Asked::AddPattern => apply_pattern(book, store, letter, &sizes),
+        Asked::CloseYear => apply_year(book, store, letter, &minus, &sizes),
     }
 }
 
-// The lists of a PATT by its line's ages.
-fn apply_pattern(book: Book, patterns: &mut Patterns, request: Request) -> Outcome
-    ensures { λ r. ⌜ Does (view book (now (patterns .entry))) (asNumbers (patternCall request)) (now (patterns .entry)) r (now (patterns .exit)) ⌝ }
+// "PATT, letter, year, then paid and incurred an age": by the line's ages.
+fn apply_pattern(book: Book, store: &mut Store, letter: u8, sizes: &[u64; 62]) -> Outcome
+    ensures { λ r. ⌜ Does book (asNumbers (patternOf letter (now (sizes .entry)))) (now (store .entry)) r (now (store .exit)) ⌝ }
 {
-    let letter = request.letter;
     let n = ages(letter);
-    let paid = request.paid;
-    let incurred = request.incurred;
-    add_pattern(
-        book,
-        patterns,
-        letter,
-        request.year,
-        &paid[..n],
-        &incurred[..n],
-    )
+    let paid = column(sizes, 3, 2, n);
+    let incurred = column(sizes, 4, 2, n);
+    add_pattern(book, store, letter, sizes[2], &paid[..n], &incurred[..n])
 }
 
-// The lists of a YEAR by its line's ages, and the prior row.
-fn apply_year(book: Book, patterns: &Patterns, request: Request) -> Outcome
-    ensures { λ r. ⌜ Does (view book (now (patterns .entry))) (asNumbers (yearCall request)) (now (patterns .entry)) r (now (patterns .entry)) ⌝ }
+// "YEAR, letter, year, then paid, unpaid, tabular for each age, prior row last": by the line's ages, and the prior row.
+fn apply_year(
+    book: Book,
+    store: &mut Store,
+    letter: u8,
+    minus: &[bool; 62],
+    sizes: &[u64; 62],
+) -> Outcome
+    requires { ⌜ Low (suc (ages letter)) (now sizes) ⌝ }
+    ensures { λ r. ⌜ Does book (asNumbers (yearOf letter (now (minus .entry)) (now (sizes .entry)))) (now (store .entry)) r (now (store .exit)) ⌝ }
 {
-    let letter = request.letter;
     let n = ages(letter) + 1;
-    let payments = request.payments;
-    let unpaid = request.unpaid;
-    let tabular = request.tabular;
+    let paid = payments(minus, sizes, n);
+    let unpaid = column(sizes, 4, 3, n);
+    let tabular = column(sizes, 5, 3, n);
     close_year(
         book,
-        patterns,
+        store,
         letter,
-        request.year,
-        &payments[..n],
+        sizes[2],
+        &paid[..n],
         &unpaid[..n],
         &tabular[..n],
     )

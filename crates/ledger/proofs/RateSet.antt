@@ -11,6 +11,7 @@ use lib.Dec.{eqb}
 use lib.ListN.{length}
 use Rattle.model.specs.Basics.{if_then_else_, given, all}
 use Rattle.model.specs.Kind.{isRate, isYear}
+use Rattle.model.specs.HalfYear.{halfYear}
 use Rattle.model.specs.Rate.{rateOf}
 use Rattle.model.specs.Call.{setRate}
 use Rattle.model.specs.Question.{isWithinLimits, bookQuestions, firstNo}
@@ -30,13 +31,16 @@ use Rattle.ledger.specs.declared.answer.Answer.the-variants as answer
 use Rattle.ledger.specs.declared.answer.Outcome.{Outcome}
 use Rattle.state.specs.declared.rates.YearRate.{YearRate}
 use Rattle.state.specs.declared.rates.YearRate.the-variants as year-rate
+use Rattle.state.specs.Hints.{withHintOf}
 use Rattle.state.specs.Rates.{ratesOf, yearRate, withRateOf}
+use Rattle.state.specs.Store.{size}
 use Rattle.state.specs.View.{view}
-use Rattle.ledger.specs.Answer.{nothing, refusedOf, acceptedOf}
-use Rattle.ledger.specs.Does.{slotsAfter, SettledAnyhow, DoesAnyhow}
+use Rattle.ledger.specs.Answer.{refusedOf, acceptedOf}
+use Rattle.ledger.specs.Does.{bookSettled, storeSettled, Settled, Does}
 use Rattle.ledger.specs.SetRate.{Averaged}
-use Rattle.ledger.proofs.Settling.{refused, count-refused, limits-refused, goes-on-anyhow}
+use Rattle.ledger.proofs.Settling.{refused, count-refused, limits-refused, goes-on}
 use Rattle.state.proofs.RatePlaces.{rates-put}
+use Rattle.state.proofs.Views.{hint-unseen}
 
 -- a mean by its two tests
 abbrev by-tests : Bool → Bool → ℕ → Mean
@@ -73,43 +77,45 @@ module _ (year : ℕ) (months : List ℕ) (m : Mean) (em : m ≡ meanOf months) 
           mean = rw (tests .2) (omega (arith, small));
         }
 
-    pub rate-on : limited ≡ true → (book : Book) (r : Outcome) → SettledAnyhow book (setRate year months) r → DoesAnyhow book (asNumbers (setRate year months)) r
-    rate-on y book r h = goes-on-anyhow book (setRate year months) r (averaged y .sound) h
+    pub rate-on : limited ≡ true → (book : Book) (store : List ℕ) (r : Outcome) (later : List ℕ) → Settled book (setRate year months) store r later → Does book (asNumbers (setRate year months)) store r later
+    rate-on y book store r later h = goes-on book (setRate year months) store r (averaged y .sound) later h
 
-    pub year-refused : limited ≡ false → (book : Book) (r : Outcome) → r ≡ refusedOf book refusal.OutsideLimits → DoesAnyhow book (asNumbers (setRate year months)) r
-    year-refused y book r er = limits-refused book (setRate year months) r true refl refl sixty refl (tests .0) (isWithinLimits (setRate year months)) refl (rw (← ey, y)) er
+    pub year-refused : limited ≡ false → (book : Book) (store : List ℕ) (r : Outcome) → r ≡ refusedOf book refusal.OutsideLimits → Does book (asNumbers (setRate year months)) store r store
+    year-refused y book store r er = limits-refused book (setRate year months) store r true refl refl sixty refl (tests .0) (isWithinLimits (setRate year months)) refl (rw (← ey, y)) er
 
   -- where there is no rate
-  by-first : (a b : Bool) → sixty ≡ a → rates ≡ b → (question : Refusal) → by-tests a b (rateOf months) ≡ mean.Refused question → (book : Book) (r : Outcome) → r ≡ refusedOf book question → DoesAnyhow book (asNumbers (setRate year months)) r
+  by-first : (a b : Bool) → sixty ≡ a → rates ≡ b → (question : Refusal) → by-tests a b (rateOf months) ≡ mean.Refused question → (book : Book) (store : List ℕ) (r : Outcome) → r ≡ refusedOf book question → Does book (asNumbers (setRate year months)) store r store
   unfolding refusalOf
-  by-first true true ea eb question e book r er = let z : _≡_ {A = ℕ} 0 1 = cc in absurd (omega arith)
-  by-first true false ea eb question e book r er =
-      limits-refused book (setRate year months) r true refl refl sixty refl ea (isWithinLimits (setRate year months)) refl (and-false (isYear year) rates eb) (er ∙ ap (refusedOf book) (cc))
-  by-first false b ea eb question e book r er = count-refused book (setRate year months) r true refl refl sixty refl ea (er ∙ ap (refusedOf book) (cc))
+  by-first true true ea eb question e book store r er = let z : _≡_ {A = ℕ} 0 1 = cc in absurd (omega arith)
+  by-first true false ea eb question e book store r er =
+      limits-refused book (setRate year months) store r true refl refl sixty refl ea (isWithinLimits (setRate year months)) refl (and-false (isYear year) rates eb) (er ∙ ap (refusedOf book) (cc))
+  by-first false b ea eb question e book store r er = count-refused book (setRate year months) store r true refl refl sixty refl ea (er ∙ ap (refusedOf book) (cc))
 
-  pub months-refused : (question : Refusal) → m ≡ mean.Refused question → (book : Book) (r : Outcome) → r ≡ refusedOf book question → DoesAnyhow book (asNumbers (setRate year months)) r
+  pub months-refused : (question : Refusal) → m ≡ mean.Refused question → (book : Book) (store : List ℕ) (r : Outcome) → r ≡ refusedOf book question → Does book (asNumbers (setRate year months)) store r store
   months-refused question e = by-first sixty rates refl refl question (sym em ∙ e)
 
 -- question 7
 set-year : (year rate : ℕ) (months : List ℕ) → Averaged year rate months → isYear year ≡ true
 set-year year rate months pre = and-left (isYear year) (all isRate months) (pre .sound .limits)
 
-module _ (book : Book) (year : ℕ) (rate : Rate) (months : List ℕ) (pre : Averaged year (rateNumber rate) months) (before : YearRate) (eb : yearRate before ≡ ratesOf (book .rates) year) (r : Outcome) where
-  first-is : (slots : List ℕ) (o : Option ℕ) → ratesOf (book .rates) year ≡ o → firstNo (bookQuestions (view book slots) (setRate year months)) ≡ (if given o then some 7 else none)
+module _ (book : Book) (year : ℕ) (rate : Rate) (months : List ℕ) (pre : Averaged year (rateNumber rate) months) (before : YearRate) (eb : yearRate before ≡ ratesOf (book .rates) year) (store : List ℕ) (r : Outcome) where
+  first-is : (o : Option ℕ) → ratesOf (book .rates) year ≡ o → firstNo (bookQuestions (view book store) (setRate year months)) ≡ (if given o then some 7 else none)
   unfolding bookQuestions
-  first-is slots none e = rw e
-  first-is slots (some n) e = rw e
+  first-is none e = rw e
+  first-is (some n) e = rw e
 
-  pub rate-given : (old : Rate) → before ≡ year-rate.Given old → r ≡ refusedOf book refusal.AlreadyGiven → SettledAnyhow book (setRate year months) r
-  rate-given old e er slots =
-      refused book refusal.AlreadyGiven (firstNo (bookQuestions (view book slots) (setRate year months))) (setRate year months) slots r (first-is slots (some (rateNumber old)) (sym eb ∙ ap yearRate e)) er
+  pub rate-given : (old : Rate) → before ≡ year-rate.Given old → r ≡ refusedOf book refusal.AlreadyGiven → Settled book (setRate year months) store r store
+  rate-given old e er =
+      refused book refusal.AlreadyGiven (firstNo (bookQuestions (view book store) (setRate year months))) (setRate year months) store r (first-is (some (rateNumber old)) (sym eb ∙ ap yearRate e)) er
 
-  pub rate-set : before ≡ year-rate.Missing → length (book .rates) ≡ 113 → (later : Book) → later ≡ withRateOf book year (rateNumber rate) → (n : ℕ) → n ≡ rateNumber rate → r ≡ acceptedOf later (answer.Rate year n) nothing → SettledAnyhow book (setRate year months) r
-  unfolding accept slotsAfter
-  rate-set e len later el n en er slots =
-      rw (first-is slots none (sym eb ∙ ap yearRate e), er, el, en)
+  pub rate-set : before ≡ year-rate.Missing → length (book .rates) ≡ 113 → length store ≡ size → (hint : ℕ) → hint ≡ halfYear (rateNumber rate) → (later : List ℕ) → later ≡ withHintOf store year hint → (rated : Book) → rated ≡ withRateOf book year (rateNumber rate)
+      → (n : ℕ) → n ≡ rateNumber rate → r ≡ acceptedOf rated (answer.Rate year n) → Settled book (setRate year months) store r later
+  unfolding accept bookSettled storeSettled
+  rate-set e len cells hint eh later el rated ed n en er =
+      let y : isYear year ≡ true = set-year year (rateNumber rate) months pre in
+      rw (first-is none (sym eb ∙ ap yearRate e), er, ed, en, el, eh)
       record {
-        outcome = rw (rates-put (book .rates) year (rateNumber rate) len (set-year year (rateNumber rate) months pre) (omega arith), pre .mean);
-        lent = refl;
-        whole = refl;
+        outcome = rw (hint-unseen store year (halfYear (rateNumber rate)) y cells, rates-put (book .rates) year (rateNumber rate) len y (omega arith), pre .mean);
+        own = rw (pre .mean);
+        lent = rw (pre .mean);
       }

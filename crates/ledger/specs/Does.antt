@@ -1,50 +1,67 @@
--- What every public call promises: the model's outcome, and the whole of the lent list.
+-- What every public call promises: the model's outcome, and the code's own later book and the whole later store.
 -- Assumes nothing: these are definitions.
 use mathlib.Core.List.{List}
 use mathlib.Core.Path.{_≡_}
 use mathlib.Core.Option.{Option, none, some}
 use Prim.Native.Nat.{ℕ}
 use Rattle.model.specs.Basics.{orDefault}
+use Rattle.model.specs.HalfYear.{halfYear}
 use Rattle.model.specs.Pattern.{agesOf}
+use Rattle.model.specs.Rate.{rateOf}
+use Rattle.model.specs.Row.{rowsOf}
 use Rattle.model.specs.Tail.{schedule}
-use Rattle.model.specs.Book.{Book}
+use Rattle.model.specs.YearEnd.{closing}
+use Rattle.model.specs.Book as model
 use Rattle.model.specs.Call.{Call, declare, setRate, addPattern, closeYear}
 use Rattle.model.specs.Question.{bookQuestions, firstNo}
 use Rattle.model.specs.Step.{Request, asked, questions, keptPattern, settle, step}
-use Rattle.state.specs.declared.book.Book as code
-use Rattle.ledger.specs.declared.answer.Outcome.{Outcome}
-use Rattle.state.specs.Patterns.{slotOf, numbersOf, written}
+use Rattle.state.specs.declared.book.Book.{Book}
+use Rattle.state.specs.Hints.{withHintOf}
+use Rattle.state.specs.Lines.{lineAt, withLineOf, newLine, withPatternOf, withClosingOf}
+use Rattle.state.specs.Patterns.{slotOf, withSlotOf}
+use Rattle.state.specs.Rates.{withRateOf}
 use Rattle.state.specs.View.{view}
-use Rattle.ledger.specs.Answer.{outcomeOf, beside}
+use Rattle.ledger.specs.declared.answer.Outcome.{Outcome}
+use Rattle.ledger.specs.Answer.{outcomeOf, oneMoreRefused, oneMoreAccepted}
 
--- the lent list after a call that is accepted or refused: a refusal leaves it as it was, and every accepted call but PATT
-unfoldable pub slotsAfter : Option ℕ → Book → Call → List ℕ → List ℕ
-slotsAfter (some question) book call slots = slots
-slotsAfter none book (declare letter opening) slots = slots
-slotsAfter none book (setRate year months) slots = slots
-slotsAfter none book (addPattern letter year paid incurred) slots =
-    written slots (slotOf letter year) (numbersOf letter (keptPattern letter year (orDefault (book .rates year) 0) (schedule letter (agesOf paid incurred))))
-slotsAfter none book (closeYear letter year paid unpaid tabular) slots = slots
+-- the code's own book after a call of which `first` is the first question answered no, if any: a refusal changes the refused count alone, and RATE its year's place besides the count
+unfoldable pub bookSettled : Option ℕ → Call → Book → Book
+bookSettled (some question) call book = oneMoreRefused book
+bookSettled none (declare letter opening) book = oneMoreAccepted book
+bookSettled none (setRate year months) book = oneMoreAccepted (withRateOf book year (rateOf months))
+bookSettled none (addPattern letter year paid incurred) book = oneMoreAccepted book
+bookSettled none (closeYear letter year paid unpaid tabular) book = oneMoreAccepted book
+
+-- the store after it, where `book` is the model's book before: a refusal leaves it as it was; LINE and YEAR write the cells of their line, PATT those of its slot and its line, RATE its year's hint
+unfoldable pub storeSettled : Option ℕ → model.Book → Call → List ℕ → List ℕ
+storeSettled (some question) book call store = store
+storeSettled none book (declare letter opening) store = withLineOf store letter (newLine opening)
+storeSettled none book (setRate year months) store = withHintOf store year (halfYear (rateOf months))
+storeSettled none book (addPattern letter year paid incurred) store =
+    let pattern = keptPattern letter year (orDefault (book .rates year) 0) (schedule letter (agesOf paid incurred)) in
+    withLineOf (withSlotOf store letter year (slotOf letter pattern)) letter (withPatternOf letter (lineAt store letter) year)
+storeSettled none book (closeYear letter year paid unpaid tabular) store =
+    withLineOf store letter (withClosingOf (lineAt store letter) year (closing letter (book .lines letter) year (rowsOf paid unpaid tabular)))
 
 -- a call of which `first` is the first question answered no, if any
-pub record Settles (first : Option ℕ) (book : Book) (call : Call) (slots : List ℕ) (r : Outcome) (later : List ℕ) : Type 0 where
-  pub outcome : outcomeOf r later ≡ settle first book call
-  pub lent : later ≡ slotsAfter first book call slots
-  pub whole : r .published ≡ beside (settle first book call .answer)
+pub record Settles (first : Option ℕ) (book : Book) (call : Call) (store : List ℕ) (r : Outcome) (later : List ℕ) : Type 0 where
+  pub outcome : outcomeOf r later ≡ settle first (view book store) call
+  pub own : r .book ≡ bookSettled first call book
+  pub lent : later ≡ storeSettled first (view book store) call store
 
 -- a call that questions 3, 4 and 6 let through: 7 to 13 are asked
 abbrev pub Settled : Book → Call → List ℕ → Outcome → List ℕ → Type 0
-Settled book call = Settles (firstNo (bookQuestions book call)) book call
+Settled book call store = Settles (firstNo (bookQuestions (view book store) call)) book call store
+
+-- the code's own book and the store after a request, where `book` is the model's book before it
+abbrev pub bookAfter : model.Book → Request → Book → Book
+bookAfter book request own = bookSettled (firstNo (questions book request)) (asked request) own
+
+abbrev pub storeAfter : model.Book → Request → List ℕ → List ℕ
+storeAfter book request store = storeSettled (firstNo (questions book request)) book (asked request) store
 
 -- a request
-pub record Does (book : Book) (request : Request) (slots : List ℕ) (r : Outcome) (later : List ℕ) : Type 0 where
-  pub outcome : outcomeOf r later ≡ step book request
-  pub lent : later ≡ slotsAfter (firstNo (questions book request)) book (asked request) slots
-  pub whole : r .published ≡ beside (step book request .answer)
-
--- a call that is not lent the list: whatever it holds
-abbrev pub SettledAnyhow : code.Book → Call → Outcome → Type 0
-SettledAnyhow book call r = (slots : List ℕ) → Settled (view book slots) call slots r slots
-
-abbrev pub DoesAnyhow : code.Book → Request → Outcome → Type 0
-DoesAnyhow book request r = (slots : List ℕ) → Does (view book slots) request slots r slots
+pub record Does (book : Book) (request : Request) (store : List ℕ) (r : Outcome) (later : List ℕ) : Type 0 where
+  pub outcome : outcomeOf r later ≡ step (view book store) request
+  pub own : r .book ≡ bookAfter (view book store) request book
+  pub lent : later ≡ storeAfter (view book store) request store

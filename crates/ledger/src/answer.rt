@@ -2,6 +2,7 @@
 use refusal::Refusal;
 use state::book::Book;
 
+// A Fact is of the pattern that the store keeps of that letter and year, so its text is put before the next call.
 pub enum Answer {
     Line {
         letter: u8,
@@ -26,9 +27,8 @@ pub enum Answer {
     No(Refusal),
 }
 
-// The later book and the answer. Beside a Fact, `published` has its factors, zeros up to ten, and its composite; beside any other answer, zeros.
+// The later book and the answer.
 pub struct Outcome {
     pub book: Book,
     pub answer: Answer,
-    pub published: [u64; 11],
 }

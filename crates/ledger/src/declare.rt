@@ -7,21 +7,22 @@ use letters::letter::is_covered;
 use money::opening::is_opening;
 use refusal::Refusal;
 use state::book::Book;
-use state::book::Line;
+use state::lines::Line;
+use state::lines::keep_line;
 use state::lines::line_of;
-use state::lines::with_line;
+use state::store::Store;
 ghost use Rattle.model.specs.Call.{declare};
 ghost use Rattle.model.specs.Question.{Sound};
 ghost use Rattle.model.specs.Step.{asNumbers};
-ghost use Rattle.ledger.specs.Does.{SettledAnyhow, DoesAnyhow};
+ghost use Rattle.ledger.specs.Does.{Settled, Does};
 
 // Questions 3 and 6, and on.
-pub fn declare(book: Book, letter: u8, opening: u64) -> Outcome
-    ensures { λ r. ⌜ DoesAnyhow book (asNumbers (declare letter opening)) r ⌝ }
+pub fn declare(book: Book, store: &mut Store, letter: u8, opening: u64) -> Outcome
+    ensures { λ r. ⌜ Does book (asNumbers (declare letter opening)) (now (store .entry)) r (now (store .exit)) ⌝ }
 {
     if is_covered(letter) {
         if is_opening(opening) {
-            return ask_given(book, letter, opening);
+            return ask_given(book, store, letter, opening);
         }
         return refuse(book, Refusal::OutsideLimits);
     }
@@ -29,11 +30,11 @@ pub fn declare(book: Book, letter: u8, opening: u64) -> Outcome
 }
 
 // "7. LINE, RATE: is that line or that year's rate still to be given?"
-fn ask_given(book: Book, letter: u8, opening: u64) -> Outcome
+fn ask_given(book: Book, store: &mut Store, letter: u8, opening: u64) -> Outcome
     requires { ⌜ Sound (declare letter opening) ⌝ }
-    ensures { λ r. ⌜ SettledAnyhow book (declare letter opening) r ⌝ }
+    ensures { λ r. ⌜ Settled book (declare letter opening) (now (store .entry)) r (now (store .exit)) ⌝ }
 {
-    let before = line_of(book, letter);
+    let before = line_of(store, letter);
     if before.declared {
         return refuse(book, Refusal::AlreadyGiven);
     }
@@ -45,6 +46,6 @@ fn ask_given(book: Book, letter: u8, opening: u64) -> Outcome
         last: 0,
         kept: 0,
     };
-    let later = with_line(book, letter, line);
-    accept(later, Answer::Line { letter, opening }, [0; 11])
+    keep_line(store, letter, line);
+    accept(book, Answer::Line { letter, opening })
 }

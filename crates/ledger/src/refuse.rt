@@ -17,6 +17,5 @@ pub fn refuse(book: Book, refusal: Refusal) -> Outcome
     Outcome {
         book: later,
         answer: Answer::No(refusal),
-        published: [0; 11],
     }
 }

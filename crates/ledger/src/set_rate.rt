@@ -3,30 +3,33 @@ use crate::accept::accept;
 use crate::answer::Answer;
 use crate::answer::Outcome;
 use crate::refuse::refuse;
+use half_year::half_year;
 use kinds::rate::Rate;
 use kinds::year::is_year;
 use rates::rate::Mean;
 use rates::rate::mean_rate;
 use refusal::Refusal;
 use state::book::Book;
+use state::hints::keep_hint;
 use state::rates::YearRate;
 use state::rates::rate_of;
 use state::rates::with_rate;
+use state::store::Store;
 ghost use Rattle.model.specs.Call.{setRate};
 ghost use Rattle.model.specs.Step.{asNumbers};
 ghost use Rattle.kinds.specs.Rate.{rateNumber};
-ghost use Rattle.ledger.specs.Does.{SettledAnyhow, DoesAnyhow};
+ghost use Rattle.ledger.specs.Does.{Settled, Does};
 ghost use Rattle.ledger.specs.SetRate.{Averaged};
 
 // Questions 4 and 6, and on.
-pub fn set_rate(book: Book, year: u64, months: &[u64]) -> Outcome
-    ensures { λ r. ⌜ DoesAnyhow book (asNumbers (setRate year (now (months .entry)))) r ⌝ }
+pub fn set_rate(book: Book, store: &mut Store, year: u64, months: &[u64]) -> Outcome
+    ensures { λ r. ⌜ Does book (asNumbers (setRate year (now (months .entry)))) (now (store .entry)) r (now (store .exit)) ⌝ }
 {
     let mean = mean_rate(months);
     match mean {
         Mean::Is(rate) => {
             if is_year(year) {
-                return ask_given(book, year, rate, months);
+                return ask_given(book, store, year, rate, months);
             }
             refuse(book, Refusal::OutsideLimits)
         }
@@ -35,14 +38,15 @@ pub fn set_rate(book: Book, year: u64, months: &[u64]) -> Outcome
 }
 
 // "7. LINE, RATE: is that line or that year's rate still to be given?" (The months are there for the contract alone.)
-fn ask_given(book: Book, year: u64, rate: Rate, months: &[u64]) -> Outcome
+fn ask_given(book: Book, store: &mut Store, year: u64, rate: Rate, months: &[u64]) -> Outcome
     requires { ⌜ Averaged year (rateNumber rate) (now months) ⌝ }
-    ensures { λ r. ⌜ SettledAnyhow book (setRate year (now (months .entry))) r ⌝ }
+    ensures { λ r. ⌜ Settled book (setRate year (now (months .entry))) (now (store .entry)) r (now (store .exit)) ⌝ }
 {
     let before = rate_of(book, year);
     match before {
         YearRate::Given(_) => refuse(book, Refusal::AlreadyGiven),
         YearRate::Missing => {
+            keep_hint(store, year, half_year(rate));
             let later = with_rate(book, year, rate);
             accept(
                 later,
@@ -50,7 +54,6 @@ fn ask_given(book: Book, year: u64, rate: Rate, months: &[u64]) -> Outcome
                     year,
                     rate: rate.number(),
                 },
-                [0; 11],
             )
         }
     }

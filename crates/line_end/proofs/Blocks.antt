@@ -1,19 +1,18 @@
 -- A block of bytes: is one of them a byte 10?
 -- Assumes nothing.
-use mathlib.Core.Bool.{Bool, true, false, _||_, or-assoc, or-false, false≢true}
-use mathlib.Core.List.{List, [], _∷_, _++_}
+use mathlib.Core.Bool.{Bool, true, false, _||_, or-assoc, or-false}
+use mathlib.Core.List.{List, _∷_}
 use mathlib.Core.Path.{_≡_, refl, sym, _∙_}
 use Prim.Native.Nat.{ℕ, _+_, _≤_, _<_}
 use native.Mathlib.Omega.{arith}
 use borrow.Author.Tests.{eq-eqb, ne-eqb, eqb-true, eqb-false}
 use lib.Dec.{eqb}
 use lib.ListN.{length, drop, getD, drop-of-length-le}
-use Rattle.bytes.specs.Bytes.{indexAfter, indexOf}
 use Rattle.model.specs.Basics.{among}
 use Rattle.model.proofs.Lists.{drop-next}
 
 -- the byte that is looked at first
-among-by : (b : ℕ) (bytes : List ℕ) (t : Bool) → eqb b 10 ≡ t → among 10 (b ∷ bytes) ≡ (t || among 10 bytes)
+pub among-by : (b : ℕ) (bytes : List ℕ) (t : Bool) → eqb b 10 ≡ t → among 10 (b ∷ bytes) ≡ (t || among 10 bytes)
 among-by b bytes true e = rw (eq-eqb 10 b (sym (eqb-true b 10 e)))
 among-by b bytes false e = rw (ne-eqb 10 b (λ q. eqb-false b 10 e (sym q)))
 
@@ -42,13 +41,3 @@ module _ (block : List ℕ) (found : Bool) (i : ℕ) (l : Looking block found i)
   looked le =
       let all : length block ≤ i = omega (arith, l .whole) in
       sym (l .so-far ∙ rw (drop-of-length-le block all) (or-false found))
-
--- a block without a byte 10 is passed over whole
-none-by : (b : ℕ) (bytes rest : List ℕ) (t : Bool) → eqb b 10 ≡ t → among 10 (b ∷ bytes) ≡ false → (among 10 bytes ≡ false → indexOf 10 (bytes ++ rest) ≡ length bytes + indexOf 10 rest) → indexOf 10 ((b ∷ bytes) ++ rest) ≡ length (b ∷ bytes) + indexOf 10 rest
-unfolding indexOf indexAfter
-none-by b bytes rest true e z more = absurd (false≢true (sym z ∙ among-by b bytes true e))
-none-by b bytes rest false e z more = rw (e, more (sym (among-by b bytes false e) ∙ z)) (omega arith)
-
-pub no-ends : (bytes rest : List ℕ) → among 10 bytes ≡ false → indexOf 10 (bytes ++ rest) ≡ length bytes + indexOf 10 rest
-no-ends [] rest z = omega arith
-no-ends (b ∷ bytes) rest z = none-by b bytes rest (eqb b 10) refl z (no-ends bytes rest)

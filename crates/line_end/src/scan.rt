@@ -1,33 +1,32 @@
-// The next byte 10. Blocks without one are passed over whole: a block's bytes are all looked at, so that the compiler can compare them at once.
+// The next byte 10. Blocks without one are passed over whole. A block's bytes are all looked at, so that the compiler can compare them at once, without branches.
 ghost use mathlib.Core.Path.{_≡_};
 ghost use Prim.Native.Nat.{_≤_};
 ghost use lib.ListN.{length};
+ghost use Rattle.bytes.specs.Bytes.{indexOf};
 ghost use Rattle.model.specs.Basics.{among};
-ghost use Rattle.line_end.specs.Scan.{EndsAt, Passed};
+ghost use Rattle.line_end.specs.Scan.{EndsAt, EndsIn};
 
 const BLOCK: usize = 16;
 
-// Where the line that starts at a place ends: at the next byte 10 or at the end of the input.
+// Where the line that starts at a place ends: at the next byte 10 or at the end of the input. A whole block, whose length the compiler knows, is searched apart from a shorter rest.
 pub fn line_end(input: &[u8], start: usize) -> usize
     ensures { λ r. ⌜ EndsAt (now (input .entry)) start r ⌝ }
 {
     if start > input.len() {
         return start;
     }
-    let mut at = skip_blocks(input, start);
-    while at < input.len() {
-        if input[at] == 10 {
-            return at;
-        }
-        at += 1;
+    let at = skip_blocks(input, start);
+    if BLOCK <= input.len() - at {
+        let end = at + BLOCK;
+        return at + first_end(&input[at..end]);
     }
-    at
+    at + first_end(&input[at..])
 }
 
-// A place that no byte 10 stands before, after the blocks without one.
+// Where the block with the line's end starts, after the blocks without one.
 fn skip_blocks(input: &[u8], start: usize) -> usize
     requires { ⌜ start ≤ length (now input) ⌝ }
-    ensures { λ r. ⌜ Passed (now (input .entry)) start r ⌝ }
+    ensures { λ r. ⌜ EndsIn (now (input .entry)) start r ⌝ }
 {
     let mut at = start;
     while BLOCK <= input.len() - at {
@@ -52,4 +51,19 @@ fn has_end(block: &[u8]) -> bool
         i += 1;
     }
     found
+}
+
+// The place of the first byte that ends a line, or the number of bytes where none does: they are looked at from the last to the first.
+fn first_end(bytes: &[u8]) -> usize
+    ensures { λ r. ⌜ r ≡ indexOf 10 (now (bytes .entry)) ⌝ }
+{
+    let mut first = bytes.len();
+    let mut i = bytes.len();
+    while 0 < i {
+        i -= 1;
+        if bytes[i] == 10 {
+            first = i;
+        }
+    }
+    first
 }

@@ -1,4 +1,3 @@
 pub mod PatternAdded
 pub mod PatternAsked
-pub mod Publishing
 pub mod Turns

@@ -4,7 +4,7 @@ use mathlib.Core.Bool.{Bool, true, false, _&&_}
 use mathlib.Core.List.{List, [], _∷_}
 use mathlib.Core.Path.{_≡_, refl, sym, ap, _∙_}
 use mathlib.Core.Option.{Option, none, some}
-use Prim.Native.Nat.{ℕ}
+use Prim.Native.Nat.{ℕ, _<_}
 use native.Mathlib.Omega.{arith}
 use Rattle.model.specs.Basics.{if_then_else_, given, all}
 use Rattle.model.specs.Kind.{isYear, isAmount}
@@ -21,7 +21,7 @@ use Rattle.factor.specs.declared.pattern.Pattern.{Pattern}
 use Rattle.payments.specs.Schedule.{scheduleBy}
 use Rattle.factor.specs.Pattern.{keptOf, patternBy, patternOf}
 use Rattle.state.specs.declared.book.Book.{Book}
-use Rattle.state.specs.declared.book.Line.{Line}
+use Rattle.state.specs.declared.lines.Line.{Line}
 use Rattle.refusal.specs.declared.Refusal.{Refusal}
 use Rattle.refusal.specs.declared.Refusal.the-variants as refusal
 use Rattle.ledger.specs.declared.answer.Outcome.{Outcome}
@@ -34,7 +34,8 @@ use Rattle.ledger.specs.Answer.{refusedOf}
 use Rattle.refusal.specs.Number.{numberOf, refusalOf}
 use Rattle.ledger.specs.Does.{Settled, Does}
 use Rattle.patterns.specs.AddPattern.{followsLast, Turned}
-use Rattle.ledger.proofs.Settling.{refused, goes-on-does}
+use Rattle.ledger.proofs.Settling.{refused, goes-on}
+use Rattle.state.proofs.Limited.{last-year, line-limited}
 use Rattle.state.proofs.Views.{line-is, declared-is}
 use Rattle.patterns.proofs.Turns.{follows-is}
 
@@ -44,34 +45,36 @@ module _ (letter year : ℕ) (paid incurred : List ℕ) (lettered : Bool) (el : 
   pub pattern-sound : limited ≡ true → Sound (addPattern letter year paid incurred)
   pattern-sound m = record { letter = sym el ∙ l; lengths = sym ec ∙ n; limits = sym em ∙ m }
 
-  pub pattern-on : limited ≡ true → (book : Book) (slots later : List ℕ) (r : Outcome) → Settled (view book slots) (addPattern letter year paid incurred) slots r later → Does (view book slots) (asNumbers (addPattern letter year paid incurred)) slots r later
-  pattern-on m book slots later r h = goes-on-does (view book slots) (addPattern letter year paid incurred) slots r later (pattern-sound m) h
+  pub pattern-on : limited ≡ true → (book : Book) (store later : List ℕ) (r : Outcome) → Settled book (addPattern letter year paid incurred) store r later → Does book (asNumbers (addPattern letter year paid incurred)) store r later
+  pattern-on m book store later r h = goes-on book (addPattern letter year paid incurred) store r (pattern-sound m) later h
 
 -- questions 8 to 12, by the code's line
-module _ (book : Book) (letter year : ℕ) (paid incurred : List ℕ) (sound : Sound (addPattern letter year paid incurred)) (line : Line) (here : line ≡ lineAt book letter) where
+module _ (book : Book) (store : List ℕ) (letter year : ℕ) (paid incurred : List ℕ) (sound : Sound (addPattern letter year paid incurred)) (line : Line) (here : line ≡ lineAt store letter) where
   abbrev call : Call
   call = addPattern letter year paid incurred
 
-  first-is : (slots : List ℕ) → firstNo (bookQuestions (view book slots) call)
-      ≡ (if line .declared then (if given (ratesOf (book .rates) year) then (if followsLast letter line year then (if hasIncurred call then (if climbs call then none else some 12) else some 11) else some 10) else some 9) else some 8)
+  first-is : firstNo (bookQuestions (view book store) call)
+      ≡ (if line .declared then (if given (ratesOf (book .rates) year) then (if followsLast line year then (if hasIncurred call then (if climbs call then none else some 12) else some 11) else some 10) else some 9) else some 8)
   unfolding bookQuestions
-  first-is slots = rw (declared-is book slots letter line here, line-is book slots letter, ← here, follows-is slots letter line year)
+  first-is = rw (declared-is store letter line here, line-is store letter line here, follows-is store letter line year)
 
-  module _ (slots : List ℕ) (r : Outcome) where
-    pub undeclared : line .declared ≡ false → r ≡ refusedOf book refusal.NotDeclared → Settled (view book slots) call slots r slots
-    undeclared d er = refused book refusal.NotDeclared (firstNo (bookQuestions (view book slots) call)) call slots r (first-is slots ∙ rw d) er
+  pub dated : 0 < line .kept → isYear (line .last) ≡ true
+  dated = last-year letter line (line-limited store letter line here)
+
+  module _ (r : Outcome) where
+    pub undeclared : line .declared ≡ false → r ≡ refusedOf book refusal.NotDeclared → Settled book call store r store
+    undeclared d er = refused book refusal.NotDeclared (firstNo (bookQuestions (view book store) call)) call store r (first-is ∙ rw d) er
 
     module _ (d : line .declared ≡ true) (rate : YearRate) (erate : yearRate rate ≡ ratesOf (book .rates) year) where
-      pub unrated : rate ≡ year-rate.Missing → r ≡ refusedOf book refusal.NoRate → Settled (view book slots) call slots r slots
-      unrated e er =
-          refused book refusal.NoRate (firstNo (bookQuestions (view book slots) call)) call slots r (first-is slots ∙ rw (d, ← erate, e)) er
+      pub unrated : rate ≡ year-rate.Missing → r ≡ refusedOf book refusal.NoRate → Settled book call store r store
+      unrated e er = refused book refusal.NoRate (firstNo (bookQuestions (view book store) call)) call store r (first-is ∙ rw (d, ← erate, e)) er
 
-      module _ (number : Rate) (e : rate ≡ year-rate.Given number) (follows : Bool) (ef : follows ≡ followsLast letter line year) where
-        pub out-of-turn : follows ≡ false → r ≡ refusedOf book refusal.OutOfTurn → Settled (view book slots) call slots r slots
+      module _ (number : Rate) (e : rate ≡ year-rate.Given number) (follows : Bool) (ef : follows ≡ followsLast line year) where
+        pub out-of-turn : follows ≡ false → r ≡ refusedOf book refusal.OutOfTurn → Settled book call store r store
         out-of-turn f er =
-            refused book refusal.OutOfTurn (firstNo (bookQuestions (view book slots) call)) call slots r (first-is slots ∙ rw (← ef, f, ← erate, e, d)) er
+            refused book refusal.OutOfTurn (firstNo (bookQuestions (view book store) call)) call store r (first-is ∙ rw (← ef, f, ← erate, e, d)) er
 
-  pub turned : line .declared ≡ true → (rate : YearRate) → yearRate rate ≡ ratesOf (book .rates) year → (number : Rate) → rate ≡ year-rate.Given number → (follows : Bool) → follows ≡ followsLast letter line year → follows ≡ true → Turned book line letter year (rateNumber number) paid incurred
+  pub turned : line .declared ≡ true → (rate : YearRate) → yearRate rate ≡ ratesOf (book .rates) year → (number : Rate) → rate ≡ year-rate.Given number → (follows : Bool) → follows ≡ followsLast line year → follows ≡ true → Turned book store line letter year (rateNumber number) paid incurred
   turned d rate erate number e follows ef f = record { sound = sound; here = here; declared = d; rated = sym erate ∙ ap yearRate e; turn = sym ef ∙ f }
 
 -- questions 11 and 12, by what `discount` answers
@@ -93,7 +96,7 @@ amounts : (y a b : Bool) → (y && a && b) ≡ true → (a && b) ≡ true
 amounts true a b e = e
 amounts false a b e = let z : _≡_ {A = ℕ} 0 1 = cc in absurd (omega arith)
 
-module _ (book : Book) (line : Line) (letter year rate : ℕ) (paid incurred : List ℕ) (pre : Turned book line letter year rate paid incurred) (pattern : Pattern) (ep : pattern ≡ patternOf letter rate paid incurred) where
+module _ (book : Book) (store : List ℕ) (line : Line) (letter year rate : ℕ) (paid incurred : List ℕ) (pre : Turned book store line letter year rate paid incurred) (pattern : Pattern) (ep : pattern ≡ patternOf letter rate paid incurred) where
   abbrev asks : Call
   asks = addPattern letter year paid incurred
 
@@ -103,15 +106,15 @@ module _ (book : Book) (line : Line) (letter year rate : ℕ) (paid incurred : L
   pattern-is : pattern ≡ patternBy (scheduleBy (first-of (hasIncurred asks) (climbs asks)) letter (agesOf paid incurred) .verdict) fine
   pattern-is = ep ∙ rw (pre .sound .letter, pre .sound .lengths, amounts (isYear year) (all isAmount paid) (all isAmount incurred) (pre .sound .limits))
 
-  first-of-two : (slots : List ℕ) → firstNo (bookQuestions (view book slots) asks) ≡ first-of (hasIncurred asks) (climbs asks)
-  first-of-two slots = first-is book letter year paid incurred (pre .sound) line (pre .here) slots ∙ rw (pre .turn, pre .rated, pre .declared)
+  first-of-two : firstNo (bookQuestions (view book store) asks) ≡ first-of (hasIncurred asks) (climbs asks)
+  first-of-two = first-is book store letter year paid incurred (pre .sound) line (pre .here) ∙ rw (pre .turn, pre .rated, pre .declared)
 
-  pub passes : pattern .verdict ≡ verdict.Fine → (slots : List ℕ) → (firstNo (bookQuestions (view book slots) asks) ≡ none) × (pattern ≡ fine)
-  passes e slots =
+  pub passes : pattern .verdict ≡ verdict.Fine → (firstNo (bookQuestions (view book store) asks) ≡ none) × (pattern ≡ fine)
+  passes e =
       let both = judged-fine (hasIncurred asks) (climbs asks) letter (agesOf paid incurred) fine (rw pattern-is at e) in
-      (first-of-two slots ∙ rw (both .0, both .1), pattern-is ∙ rw (both .0, both .1))
+      (first-of-two ∙ rw (both .0, both .1), pattern-is ∙ rw (both .0, both .1))
 
-  pub ratios-refused : (question : Refusal) → pattern .verdict ≡ verdict.Refused question → (slots : List ℕ) (r : Outcome) → r ≡ refusedOf book question → Settled (view book slots) asks slots r slots
-  ratios-refused question e slots r er =
-      refused book question (firstNo (bookQuestions (view book slots) asks)) asks slots r
-      (first-of-two slots ∙ judged-refused (hasIncurred asks) (climbs asks) letter (agesOf paid incurred) fine refl question (rw pattern-is at e)) er
+  pub ratios-refused : (question : Refusal) → pattern .verdict ≡ verdict.Refused question → (r : Outcome) → r ≡ refusedOf book question → Settled book asks store r store
+  ratios-refused question e r er =
+      refused book question (firstNo (bookQuestions (view book store) asks)) asks store r
+      (first-of-two ∙ judged-refused (hasIncurred asks) (climbs asks) letter (agesOf paid incurred) fine refl question (rw pattern-is at e)) er

@@ -1,6 +1,5 @@
 // "PATT, letter, year, then paid and incurred an age"
 use factor::pattern::discount;
-use factor::published::published;
 use kinds::rate::Rate;
 use kinds::year::is_year;
 use ledger::accept::accept;
@@ -13,44 +12,47 @@ use money::amount::Amount;
 use refusal::Refusal;
 use refusal::Verdict;
 use state::book::Book;
-use state::book::Line;
-use state::book::Patterns;
+use state::hints::hint_of;
+use state::lines::Line;
+use state::lines::keep_line;
 use state::lines::line_of;
-use state::lines::with_line;
-use state::patterns::keep;
-use state::patterns::kept_count;
+use state::patterns::keep_pattern;
 use state::rates::YearRate;
 use state::rates::rate_of;
+use state::store::Store;
 ghost use mathlib.Core.Bool.{true};
-ghost use mathlib.Core.List.{[], _∷_, _++_, map};
+ghost use mathlib.Core.List.{[], _∷_, _++_};
 ghost use mathlib.Core.Path.{_≡_};
+ghost use Prim.Native.Nat.{_<_};
 ghost use lib.ListN.{length};
-ghost use Rattle.model.specs.Letter.{covered};
+ghost use Rattle.model.specs.Kind.{isYear};
 ghost use Rattle.model.specs.Call.{addPattern};
-ghost use Rattle.model.specs.Published.{published};
 ghost use Rattle.model.specs.Question.{Sound, hasLengths, isWithinLimits};
 ghost use Rattle.model.specs.Step.{asNumbers};
 ghost use Rattle.kinds.specs.Rate.{rateNumber};
-ghost use Rattle.state.specs.View.{view};
+ghost use Rattle.state.specs.Store.{size};
+ghost use Rattle.state.specs.Lines.{withLineOf, withPatternOf};
+ghost use Rattle.state.specs.Patterns.{withSlotOf};
+ghost use Rattle.ledger.specs.declared.answer.Answer.the-variants.{Fact};
+ghost use Rattle.ledger.specs.Answer.{acceptedOf};
 ghost use Rattle.ledger.specs.Does.{Does, Settled};
-ghost use Rattle.state.specs.Patterns.{slotOf, withPatternOf, written};
-ghost use Rattle.patterns.specs.AddPattern.{followsLast, patternOutcome, Turned};
+ghost use Rattle.patterns.specs.AddPattern.{followsLast, Turned};
 
 // Questions 3, 4 and 6, and on.
 pub fn add_pattern(
     book: Book,
-    patterns: &mut Patterns,
+    store: &mut Store,
     letter: u8,
     year: u64,
     paid: &[u64],
     incurred: &[u64],
 ) -> Outcome
-    ensures { λ r. ⌜ Does (view book (now (patterns .entry))) (asNumbers (addPattern letter year (now (paid .entry)) (now (incurred .entry)))) (now (patterns .entry)) r (now (patterns .exit)) ⌝ }
+    ensures { λ r. ⌜ Does book (asNumbers (addPattern letter year (now (paid .entry)) (now (incurred .entry)))) (now (store .entry)) r (now (store .exit)) ⌝ }
 {
     if is_covered(letter) {
         if has_lengths(letter, paid, incurred) {
             if has_limits(year, paid, incurred) {
-                return ask_declared(book, patterns, letter, year, paid, incurred);
+                return ask_declared(book, store, letter, year, paid, incurred);
             }
             return refuse(book, Refusal::OutsideLimits);
         }
@@ -77,23 +79,23 @@ fn has_limits(year: u64, paid: &[u64], incurred: &[u64]) -> bool
 // "8. PATT, YEAR: is the line declared?" "9. PATT: has the year a rate?" "10. PATT: is it the line's first pattern, or the year after its last one ..", and on.
 fn ask_declared(
     book: Book,
-    patterns: &mut Patterns,
+    store: &mut Store,
     letter: u8,
     year: u64,
     paid: &[u64],
     incurred: &[u64],
 ) -> Outcome
     requires { ⌜ Sound (addPattern letter year (now paid) (now incurred)) ⌝ }
-    ensures { λ r. ⌜ Settled (view book (now (patterns .entry))) (addPattern letter year (now (paid .entry)) (now (incurred .entry))) (now (patterns .entry)) r (now (patterns .exit)) ⌝ }
+    ensures { λ r. ⌜ Settled book (addPattern letter year (now (paid .entry)) (now (incurred .entry))) (now (store .entry)) r (now (store .exit)) ⌝ }
 {
-    let line = line_of(book, letter);
+    let line = line_of(store, letter);
     if line.declared {
         let given = rate_of(book, year);
         let YearRate::Given(rate) = given else {
             return refuse(book, Refusal::NoRate);
         };
-        if follows_last(letter, line, year) {
-            return ask_ratios(book, patterns, line, letter, year, rate, paid, incurred);
+        if follows_last(line, year) {
+            return ask_ratios(book, store, line, letter, year, rate, paid, incurred);
         }
         return refuse(book, Refusal::OutOfTurn);
     }
@@ -101,10 +103,11 @@ fn ask_declared(
 }
 
 // "is it the line's first pattern, or the year after its last one, that last one closed if any year is closed?"
-fn follows_last(letter: u8, line: Line, year: u64) -> bool
-    ensures { λ r. ⌜ r ≡ followsLast letter line year ⌝ }
+fn follows_last(line: Line, year: u64) -> bool
+    requires { ⌜ (0 < line .kept → isYear (line .last) ≡ true) ⌝ }
+    ensures { λ r. ⌜ r ≡ followsLast line year ⌝ }
 {
-    if kept_count(letter, line) == 0 {
+    if line.kept == 0 {
         return true;
     }
     let last = line.last;
@@ -120,7 +123,7 @@ fn follows_last(letter: u8, line: Line, year: u64) -> bool
 // "11. PATT: is every incurred above 0 and no paid above its incurred?" "12. PATT: does no cumulative ratio fall from one age to the next?", and the pattern.
 fn ask_ratios(
     book: Book,
-    patterns: &mut Patterns,
+    store: &mut Store,
     line: Line,
     letter: u8,
     year: u64,
@@ -128,64 +131,50 @@ fn ask_ratios(
     paid: &[u64],
     incurred: &[u64],
 ) -> Outcome
-    requires { ⌜ Turned book line letter year (rateNumber rate) (now paid) (now incurred) ⌝ }
-    ensures { λ r. ⌜ Settled (view book (now (patterns .entry))) (addPattern letter year (now (paid .entry)) (now (incurred .entry))) (now (patterns .entry)) r (now (patterns .exit)) ⌝ }
+    requires { ⌜ Turned book (now store) line letter year (rateNumber rate) (now paid) (now incurred) ⌝ }
+    ensures { λ r. ⌜ Settled book (addPattern letter year (now (paid .entry)) (now (incurred .entry))) (now (store .entry)) r (now (store .exit)) ⌝ }
 {
-    let pattern = discount(letter, rate, 0, paid, incurred);
+    let pattern = discount(letter, rate, hint_of(store, year), paid, incurred);
     let verdict = pattern.verdict;
     match verdict {
         Verdict::Fine => {
             let factors = pattern.factors;
             let composite = pattern.composite;
-            keep_pattern(book, patterns, line, letter, year, factors, composite)
+            keep(book, store, line, letter, year, factors, composite)
         }
         Verdict::Refused(refusal) => refuse(book, refusal),
     }
 }
 
-// The pattern kept and published.
-fn keep_pattern(
+// The pattern kept in its slot, and in its line.
+fn keep(
     book: Book,
-    patterns: &mut Patterns,
+    store: &mut Store,
     line: Line,
     letter: u8,
     year: u64,
     factors: [u64; 10],
     composite: u64,
 ) -> Outcome
-    requires { ⌜ covered letter ≡ true ⌝ }
-    ensures { λ r. ⌜ (r ≡ patternOutcome book line letter year factors composite) × (length (now (patterns .entry)) ≡ 1650) × (now (patterns .exit) ≡ written (now (patterns .entry)) (slotOf letter year) (factors ++ (composite ∷ []))) ⌝ }
+    ensures { λ r. ⌜ (r ≡ acceptedOf book (Fact letter year)) × (length (now (store .entry)) ≡ size) × (now (store .exit) ≡ withLineOf (withSlotOf (now (store .entry)) letter year (factors ++ (composite ∷ []))) letter (withPatternOf letter line year)) ⌝ }
 {
-    keep(patterns, letter, year, factors, composite);
-    let later = with_line(book, letter, with_pattern(letter, line, year));
-    accept(
-        later,
-        Answer::Fact { letter, year },
-        publish(factors, composite),
-    )
+    keep_pattern(store, letter, year, factors, composite);
+    keep_line(store, letter, with_pattern(letter, line, year));
+    accept(book, Answer::Fact { letter, year })
 }
 
 // The line with one pattern more: "A line keeps its latest ten patterns (two-year: two)."
 fn with_pattern(letter: u8, line: Line, year: u64) -> Line
     ensures { λ r. ⌜ r ≡ withPatternOf letter line year ⌝ }
 {
-    let kept = kept_count(letter, line);
+    let most = ages(letter) as u64;
+    let kept = line.kept;
     let mut later = line;
     later.last = year;
-    later.kept = kept as u64 + 1;
-    later
-}
-
-// Ten factors and the composite as they are published.
-fn publish(factors: [u64; 10], composite: u64) -> [u64; 11]
-    ensures { λ r. ⌜ r ≡ map published factors ++ (published composite ∷ []) ⌝ }
-{
-    let mut list = [0u64; 11];
-    let mut i = 0;
-    while i < 10 {
-        list[i] = published(factors[i]);
-        i += 1;
+    if kept < most {
+        later.kept = kept + 1;
+    } else {
+        later.kept = most;
     }
-    list[10] = published(composite);
-    list
+    later
 }

@@ -21,39 +21,41 @@ use Rattle.pieces.specs.Feed.{bytesOf, openLine, Answers}
 use Rattle.pieces.proofs.Cut.{ended-cut}
 use Rattle.pieces.proofs.Joining.{same-front, open-bytes}
 
-pub answers : (book : Book) (slots line out : List ℕ) (at : ℕ) (outcome : Outcome) (laterSlots laterOut : List ℕ) (next : ℕ)
-    → Does (view book slots) (asBytes line) slots outcome laterSlots → PutsWithRoom out at (text (answered (outcome .answer) (outcome .published))) laterOut next
-    → Answers book slots line out at (record { book = outcome .book; next = next }) laterSlots laterOut
-answers book slots line out at outcome laterSlots laterOut next does puts =
+pub answers : (book : Book) (store line out : List ℕ) (at : ℕ) (outcome : Outcome) (laterStore laterOut : List ℕ) (next : ℕ)
+    → Does book (asBytes line) store outcome laterStore → PutsWithRoom out at (text (answered (outcome .answer) laterStore)) laterOut next
+    → Answers book store line out at (record { book = outcome .book; next = next }) laterStore laterOut
+answers book store line out at outcome laterStore laterOut next does puts =
     record {
       later = ap (λ (o : model-step.Outcome). o .book) (does .outcome);
+      own = does .own;
       lent = does .lent;
       puts = rw (← (ap (λ (o : model-step.Outcome). o .answer) (does .outcome))) puts;
     }
 
-module _ (book : Book) (slots : List ℕ) where
+module _ (book : Book) (store : List ℕ) where
   abbrev before : Progress
-  before = record { book = view book slots; slots = slots; line = []; written = [] }
+  before = record { book = view book store; own = book; store = store; line = []; written = [] }
 
   -- 1,025 bytes of a line are enough
-  pub answers-cut : (line out : List ℕ) (at : ℕ) (r : Answered) (laterSlots laterOut : List ℕ) → Answers book slots (take 1025 line) out at r laterSlots laterOut → Answers book slots line out at r laterSlots laterOut
+  pub answers-cut : (line out : List ℕ) (at : ℕ) (r : Answered) (laterStore laterOut : List ℕ) → Answers book store (take 1025 line) out at r laterStore laterOut → Answers book store line out at r laterStore laterOut
   unfolding ended
-  answers-cut line out at r laterSlots laterOut a =
+  answers-cut line out at r laterStore laterOut a =
       let cut = ended-cut before line in
       record {
         later = a .later ∙ ap (λ (s : Progress). s .book) cut;
-        lent = a .lent ∙ ap (λ (s : Progress). s .slots) cut;
+        own = a .own ∙ ap (λ (s : Progress). s .own) cut;
+        lent = a .lent ∙ ap (λ (s : Progress). s .store) cut;
         puts = rw (← (ap (λ (s : Progress). s .written) cut)) (a .puts);
       }
 
 -- where no line was begun, the line is the rest
-pub not-begun : (book : Book) (slots begun rest out : List ℕ) (at : ℕ) (r : Answered) (laterSlots laterOut : List ℕ) → length begun ≡ 0 → Answers book slots rest out at r laterSlots laterOut → Answers book slots (begun ++ rest) out at r laterSlots laterOut
-not-begun book slots [] rest out at r laterSlots laterOut e a = a
-not-begun book slots (b ∷ begun) rest out at r laterSlots laterOut e a = absurd (omega arith)
+pub not-begun : (book : Book) (store begun rest out : List ℕ) (at : ℕ) (r : Answered) (laterStore laterOut : List ℕ) → length begun ≡ 0 → Answers book store rest out at r laterStore laterOut → Answers book store (begun ++ rest) out at r laterStore laterOut
+not-begun book store [] rest out at r laterStore laterOut e a = a
+not-begun book store (b ∷ begun) rest out at r laterStore laterOut e a = absurd (omega arith)
 
 -- a line of two parts
-pub answers-joined : (book : Book) (slots begun rest : List ℕ) (line : OpenLine) → line ≡ openLine (take 1025 (begun ++ rest)) → (n : ℕ) → n ≡ length (bytesOf line)
-    → (out : List ℕ) (at : ℕ) (r : Answered) (laterSlots laterOut : List ℕ) → Answers book slots (take n (line .bytes)) out at r laterSlots laterOut → Answers book slots (begun ++ rest) out at r laterSlots laterOut
-answers-joined book slots begun rest line joined n e out at r laterSlots laterOut a =
+pub answers-joined : (book : Book) (store begun rest : List ℕ) (line : OpenLine) → line ≡ openLine (take 1025 (begun ++ rest)) → (n : ℕ) → n ≡ length (bytesOf line)
+    → (out : List ℕ) (at : ℕ) (r : Answered) (laterStore laterOut : List ℕ) → Answers book store (take n (line .bytes)) out at r laterStore laterOut → Answers book store (begun ++ rest) out at r laterStore laterOut
+answers-joined book store begun rest line joined n e out at r laterStore laterOut a =
     let whole : take n (line .bytes) ≡ take 1025 (begun ++ rest) = rw e (same-front (line .bytes) (line .count)) ∙ open-bytes line (take 1025 (begun ++ rest)) joined in
-    answers-cut book slots (begun ++ rest) out at r laterSlots laterOut (rw (← whole) a)
+    answers-cut book store (begun ++ rest) out at r laterStore laterOut (rw (← whole) a)

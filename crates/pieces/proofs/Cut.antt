@@ -14,7 +14,8 @@ use Rattle.model.specs.Question.{firstNo}
 use Rattle.model.specs.Answer.{text}
 use Rattle.model.specs.Step.{asBytes, questions, refuse}
 use Rattle.model.proofs.Steps.{first-is-length, step-is}
-use Rattle.ledger.specs.Does.{slotsAfter}
+use Rattle.ledger.specs.Answer.{oneMoreRefused}
+use Rattle.ledger.specs.Does.{bookSettled, storeSettled}
 use Rattle.pieces.specs.Progress.{Progress, ended}
 
 pub take-join : {A : Type 0} (n : ℕ) (xs ys : List A) → take n (take n xs ++ ys) ≡ take n (xs ++ ys)
@@ -24,12 +25,12 @@ take-join (suc n) (x ∷ xs) ys = rw (take-join n xs ys)
 
 -- the progress with another line
 abbrev pub with-line : Progress → List ℕ → Progress
-with-line s line = record { book = s .book; slots = s .slots; line = line; written = s .written }
+with-line s line = record { book = s .book; own = s .own; store = s .store; line = line; written = s .written }
 
 -- a long line is refused
 ended-long : (s : Progress) (line : List ℕ) → 1024 < length line
-    → ended (with-line s line) ≡ record { book = refuse (s .book) 1 .book; slots = s .slots; line = []; written = s .written ++ text (refuse (s .book) 1 .answer) }
-unfolding ended slotsAfter
+    → ended (with-line s line) ≡ record { book = refuse (s .book) 1 .book; own = oneMoreRefused (s .own); store = s .store; line = []; written = s .written ++ text (refuse (s .book) 1 .answer) }
+unfolding ended bookSettled storeSettled
 ended-long s line long =
     let first : firstNo (questions (s .book) (asBytes line)) ≡ some 1 = first-is-length (s .book) line (lt-leb (length line) 1024 long) in
     rw (step-is (s .book) (asBytes line) (some 1) first, first)

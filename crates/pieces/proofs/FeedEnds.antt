@@ -11,7 +11,7 @@ use lib.Seq.{take-length, take-take, take-all, drop-length}
 use Rattle.model.specs.Answer.{doneText}
 use Rattle.model.proofs.Lists.{true≢false}
 use Rattle.state.specs.declared.book.Book.{Book}
-use Rattle.state.specs.View.{IsEmpty}
+use Rattle.state.specs.View.{emptyBook, emptyStore}
 use Rattle.bytes.specs.Bytes.{indexOf}
 use Rattle.line_end.specs.Scan.{EndsAt}
 use Rattle.answer.specs.Put.{placed, Puts}
@@ -20,26 +20,46 @@ use Rattle.pieces.specs.declared.line.OpenLine.{OpenLine}
 use Rattle.pieces.specs.declared.answer_line.Answered.{Answered}
 use Rattle.pieces.specs.declared.answer_lines.Lines.{Lines}
 use Rattle.pieces.specs.declared.feed.Run.{Run}
-use Rattle.pieces.specs.Progress.{Progress, ended, lengthened, takingAll, takenOf, closed}
-use Rattle.pieces.specs.Feed.{bytesOf, openLine, before, progressOf, IsStart, Answers, FedTo, AnswersLines, Feeds, Closes, PutsDone}
+use Rattle.pieces.specs.Progress.{Progress, ended, lengthened, takingAll, takenOf, atEnd}
+use Rattle.pieces.specs.Feed.{bytesOf, openLine, before, progressOf, IsStart, Answers, FedTo, AnswersLines, AnswersWholeLines, unanswered, Feeds, Closes, PutsDone}
 use Rattle.pieces.proofs.LineFound.{line-taken, line-counted}
 use Rattle.pieces.proofs.Joining.{same-front, front-length}
-use Rattle.pieces.proofs.Feeding.{put-in, room-is, short}
+use Rattle.pieces.proofs.Feeding.{feed-start, feed-on, put-in, room-is, short}
 use Rattle.pieces.proofs.Pieces.{pieces-join}
-use Rattle.pieces.proofs.Written.{closed-some}
+use Rattle.pieces.proofs.Written.{at-end-some}
 
-module _ (book : Book) (slots begun piece out : List ℕ) (r : Lines) (laterSlots laterOut : List ℕ) (f : FedTo (before book slots begun) begun piece out (r .book) (r .begun) (r .at) (r .put) laterSlots laterOut) where
-  -- no byte 10 is left
-  pub lines-over : (end : ℕ) → EndsAt piece (r .at) end → length piece ≤ end → AnswersLines book slots begun piece out r laterSlots laterOut
-  lines-over end e ge =
-      record {
-        fed = f;
-        over = λ (room : hasRoom laterOut (r .put) ≡ true). omega (arith, e .place, e .within, f .inside, length-drop (r .at) piece);
-      }
+-- the lines of a piece, after a line that was begun before it
+module _ (book : Book) (store begun piece out : List ℕ) (kept : length begun ≤ 1025) where
+  abbrev at-first : Progress
+  at-first = before book store begun
 
-  -- or no room
-  pub lines-full : (t : Bool) → t ≡ hasRoom laterOut (r .put) → t ≡ false → AnswersLines book slots begun piece out r laterSlots laterOut
-  lines-full t told no-room = record { fed = f; over = λ (room : hasRoom laterOut (r .put) ≡ true). absurd (true≢false (sym room ∙ sym told ∙ no-room)) }
+  started : FedTo at-first begun piece out book (length begun) 0 0 store out
+  started = feed-start book store begun piece out kept
+
+  -- none was begun
+  pub none-begun : length begun ≡ 0 → (r : Lines) (laterStore laterOut : List ℕ) → AnswersWholeLines book store piece 0 out 0 r laterStore laterOut → AnswersLines book store begun piece out r laterStore laterOut
+  none-begun z r laterStore laterOut w = record { fed = w .fed at-first begun out (rw z at started); over = w .over }
+
+  module _ (end : ℕ) (e : EndsAt piece 0 end) where
+    pub end-inside : end < length piece → end ≡ length (take end piece)
+    end-inside lt = front-length end piece (omega arith)
+
+    -- it ends in the piece
+    pub first-joined : (t : Bool) → t ≡ hasRoom out 0 → t ≡ true → end < length piece → (a : Answered) (middleStore middleOut : List ℕ) → length middleOut ≡ length out → Answers book store (begun ++ take end piece) out 0 a middleStore middleOut
+        → (r : Lines) (laterStore laterOut : List ℕ) → AnswersWholeLines (a .book) middleStore piece (end + 1) middleOut (a .next) r laterStore laterOut → AnswersLines book store begun piece out r laterStore laterOut
+    first-joined t told is-room lt a middleStore middleOut same answered r laterStore laterOut w =
+        let all : end - 0 ≡ end = omega arith in
+        let fed = feed-on at-first begun piece out book (length begun) 0 0 store out started t told is-room end e lt a middleStore middleOut same (rw (take-length begun, all) answered) in
+        record { fed = w .fed at-first begun out fed; over = w .over }
+
+    module _ (r : Lines) (er : r ≡ unanswered book begun) where
+      -- or no byte 10 is there
+      pub lines-over : length piece ≤ end → AnswersLines book store begun piece out r store out
+      lines-over ge = rw er record { fed = started; over = λ (room : hasRoom out 0 ≡ true). omega (arith, e .place, e .within) }
+
+      -- or no room
+      pub lines-full : (t : Bool) → t ≡ hasRoom out 0 → t ≡ false → AnswersLines book store begun piece out r store out
+      lines-full t told no-room = rw er record { fed = started; over = λ (room : hasRoom out 0 ≡ true). absurd (true≢false (sym room ∙ sym told ∙ no-room)) }
 
 none-taken : (size : ℕ) (s : Progress) (rest : List ℕ) → size < length (s .written) + 320 → takenOf size s rest ≡ 0
 unfolding takenOf
@@ -47,13 +67,13 @@ none-taken size s [] lt = refl
 none-taken size s (b ∷ rest) lt = rw (lt-leb (length (s .written) + 320) size lt)
 
 -- the line that a piece leaves open
-module _ (run : Run) (slots piece out : List ℕ) (n : ℕ) (e : n ≡ length (bytesOf (run .line))) (r : Lines) (laterSlots laterOut : List ℕ)
-    (a : AnswersLines (run .book) slots (take n (run .line .bytes)) piece out r laterSlots laterOut) where
+module _ (run : Run) (store piece out : List ℕ) (n : ℕ) (e : n ≡ length (bytesOf (run .line))) (r : Lines) (laterStore laterOut : List ℕ)
+    (a : AnswersLines (run .book) store (take n (run .line .bytes)) piece out r laterStore laterOut) where
   line : take n (run .line .bytes) ≡ bytesOf (run .line)
   line = rw e (same-front (run .line .bytes) (run .line .count))
 
   abbrev start : Progress
-  start = before (run .book) slots (take n (run .line .bytes))
+  start = before (run .book) store (take n (run .line .bytes))
 
   abbrev s : Progress
   s = takingAll start (take (r .at) piece)
@@ -76,7 +96,7 @@ module _ (run : Run) (slots piece out : List ℕ) (n : ℕ) (e : n ≡ length (b
       sym (take-take (r .begun) n (run .line .bytes) less) ∙ a .fed .line
 
   pub feeds-full : (t : Bool) → t ≡ hasRoom laterOut (r .put) → t ≡ false → (kept : OpenLine) → kept ≡ openLine (take 1025 (bytes ++ take 0 piece))
-      → Feeds run slots piece out (record { run = record { book = r .book; line = kept }; taken = r .at; put = r .put }) laterSlots laterOut
+      → Feeds run store piece out (record { run = record { book = r .book; line = kept }; taken = r .at; put = r .put }) laterStore laterOut
   feeds-full t told no-room kept l =
       let full : hasRoom laterOut (r .put) ≡ false = sym told ∙ no-room in
       let all-kept : length bytes ≤ 1025 = rw (length-take (r .begun) (run .line .bytes)) (omega (arith, a .fed .few, a .fed .kept)) in
@@ -109,7 +129,7 @@ module _ (run : Run) (slots piece out : List ℕ) (n : ℕ) (e : n ≡ length (b
         rw (take-length piece) (ap (takingAll start) split ∙ pieces-join start (take (r .at) piece) rest ∙ rest-taken)
 
     pub feeds-room : (longer : OpenLine) → longer ≡ openLine (take 1025 (bytes ++ take (length piece - r .at) rest))
-        → Feeds run slots piece out (record { run = record { book = r .book; line = longer }; taken = length piece; put = r .put }) laterSlots laterOut
+        → Feeds run store piece out (record { run = record { book = r .book; line = longer }; taken = length piece; put = r .put }) laterStore laterOut
     unfolding lengthened takenOf
     feeds-room longer l =
         let none : drop (indexOf 10 rest) rest ≡ [] = rw all (drop-length rest) in
@@ -119,7 +139,7 @@ module _ (run : Run) (slots piece out : List ℕ) (n : ℕ) (e : n ≡ length (b
         let all-bytes : take (length piece - r .at) rest ≡ rest = take-all (length piece - r .at) rest (omega (arith, length-drop (r .at) piece)) in
         record {
           taken = rw (← line) (sym (a .fed .left ∙ rw none-left (omega (arith, a .fed .inside, length-drop (r .at) piece))));
-          reached = rw (← line, whole) (record { later = a .fed .reached .later; lent = a .fed .reached .lent; puts = a .fed .reached .puts });
+          reached = rw (← line, whole) (record { later = a .fed .reached .later; own = a .fed .reached .own; lent = a .fed .reached .lent; puts = a .fed .reached .puts });
           unended = l ∙ rw (← line, whole, all-bytes, still-open);
         }
 
@@ -127,37 +147,38 @@ empty-list : (l : List ℕ) → length l ≡ 0 → l ≡ []
 empty-list [] z = refl
 empty-list (x ∷ l) z = absurd (omega arith)
 
-closed-by : (s : Progress) (line : List ℕ) → s .line ≡ line → (length line ≡ 0 → ⊥) → closed s ≡ ended s
-closed-by s [] e nz = absurd (nz refl)
-closed-by s (b ∷ line) e nz = closed-some s b line e
+at-end-by : (s : Progress) (line : List ℕ) → s .line ≡ line → (length line ≡ 0 → ⊥) → atEnd s ≡ ended s
+at-end-by s [] e nz = absurd (nz refl)
+at-end-by s (b ∷ line) e nz = at-end-some s b line e
 
-closed-line : (s : Progress) → (length (s .line) ≡ 0 → ⊥) → closed s ≡ ended s
-closed-line s nz = closed-by s (s .line) refl nz
+at-end-line : (s : Progress) → (length (s .line) ≡ 0 → ⊥) → atEnd s ≡ ended s
+at-end-line s nz = at-end-by s (s .line) refl nz
 
 -- before the first piece
-pub starts : (book : Book) → IsEmpty book → IsStart (record { book = book; line = record { bytes = replicate 1025 0; count = 0 } })
-starts book e = (refl, λ slots. rw (e slots))
+pub starts : (book : Book) (store : List ℕ) → book ≡ emptyBook → store ≡ emptyStore → IsStart (record { book = book; line = record { bytes = replicate 1025 0; count = 0 } }) store
+starts book store e l = record { book = e; line = refl; lent = l }
 
 -- a large buffer has room for a text
 put-first : (out text laterOut : List ℕ) (next : ℕ) → length out ≡ 65536 → PutsWithRoom out 0 text laterOut next → Puts out 0 text laterOut next
 put-first out text laterOut next size p = put-in out 0 text laterOut next (le-leb (0 + 320) (length out) (omega (arith, size))) p
 
 -- the end of input
-module _ (run : Run) (slots out : List ℕ) (begun : ℕ) (n : begun ≡ length (bytesOf (run .line))) where
-  pub closes-none : begun ≡ 0 → Closes run slots out (record { book = run .book; next = 0 }) slots out
-  unfolding closed placed
+module _ (run : Run) (store out : List ℕ) (begun : ℕ) (n : begun ≡ length (bytesOf (run .line))) where
+  pub closes-none : begun ≡ 0 → Closes run store out (record { book = run .book; next = 0 }) store out
+  unfolding atEnd placed
   closes-none z =
       let none : bytesOf (run .line) ≡ [] = empty-list (bytesOf (run .line)) (omega (arith, n, z)) in
-      record { reached = rw none (record { later = refl; lent = refl; puts = record { whole = refl; after-it = refl } }) }
+      record { reached = rw none (record { later = refl; own = refl; lent = refl; puts = record { whole = refl; after-it = refl } }) }
 
-  pub closes-line : (begun ≡ 0 → ⊥) → (r : Answered) (laterSlots laterOut : List ℕ) → length out ≡ 65536 → Answers (run .book) slots (take begun (run .line .bytes)) out 0 r laterSlots laterOut → Closes run slots out r laterSlots laterOut
+  pub closes-line : (begun ≡ 0 → ⊥) → (r : Answered) (laterStore laterOut : List ℕ) → length out ≡ 65536 → Answers (run .book) store (take begun (run .line .bytes)) out 0 r laterStore laterOut → Closes run store out r laterStore laterOut
   unfolding ended
-  closes-line nz r laterSlots laterOut size a =
+  closes-line nz r laterStore laterOut size a =
       let line : take begun (run .line .bytes) ≡ bytesOf (run .line) = rw n (same-front (run .line .bytes) (run .line .count)) in
-      let ends : closed (progressOf run slots) ≡ ended (progressOf run slots) = closed-line (progressOf run slots) (λ (z : length (bytesOf (run .line)) ≡ 0). nz (n ∙ z)) in
+      let ends : atEnd (progressOf run store) ≡ ended (progressOf run store) = at-end-line (progressOf run store) (λ (z : length (bytesOf (run .line)) ≡ 0). nz (n ∙ z)) in
       record {
         reached = rw ends (record {
           later = a .later ∙ rw line;
+          own = a .own ∙ rw line;
           lent = a .lent ∙ rw line;
           puts = put-first out _ laterOut (r .next) size (rw (← line) (a .puts));
         });

@@ -2,7 +2,7 @@
 -- Assumes nothing.
 use mathlib.Core.List.{List, [], _∷_, _++_}
 use mathlib.Core.Path.{_≡_, refl, sym, ap, _∙_}
-use mathlib.Core.Bool.{Bool, true}
+use mathlib.Core.Bool.{Bool, true, false}
 use Prim.Native.Nat.{ℕ, suc, _+_, _-_, _≤_, _<_}
 use native.Mathlib.Omega.{arith}
 use borrow.Author.Tests.{leb-true}
@@ -14,24 +14,32 @@ use Rattle.line_end.specs.Scan.{EndsAt}
 use Rattle.answer.specs.Put.{placed, Puts}
 use Rattle.answer.specs.Text.{hasRoom, PutsWithRoom}
 use Rattle.answer.proofs.Joins.{joined}
+use Rattle.model.specs.Answer.{text}
+use Rattle.model.specs.Step.{asBytes}
+use Rattle.model.proofs.Lists.{true≢false}
+use Rattle.ledger.specs.declared.answer.Outcome.{Outcome}
+use Rattle.ledger.specs.Answer.{answered}
+use Rattle.ledger.specs.Does.{Does}
 use Rattle.pieces.specs.declared.answer_line.Answered.{Answered}
+use Rattle.pieces.specs.declared.answer_lines.Lines.{Lines}
 use Rattle.pieces.specs.Progress.{Progress, ended, lengthened, taking, takingAll, takenOf}
-use Rattle.pieces.specs.Feed.{before, Answers, FedTo}
+use Rattle.pieces.specs.Feed.{before, Answers, FedTo, AnswersWholeLines}
+use Rattle.pieces.proofs.Answering.{answers}
 use Rattle.pieces.proofs.Cut.{with-line, ended-cut}
 use Rattle.pieces.proofs.LineFound.{line-taken, line-counted, takes-one, same-room, found}
 use Rattle.pieces.proofs.Joining.{front-length}
 use Rattle.pieces.proofs.Pieces.{pieces-join}
 
 -- before the first byte
-pub feed-start : (book : Book) (slots begun piece out : List ℕ) → length begun ≤ 1025 → FedTo (before book slots begun) begun piece out book (length begun) 0 0 slots out
+pub feed-start : (book : Book) (store begun piece out : List ℕ) → length begun ≤ 1025 → FedTo (before book store begun) begun piece out book (length begun) 0 0 store out
 unfolding takingAll placed
-feed-start book slots begun piece out short =
+feed-start book store begun piece out short =
     record {
       kept = short;
       inside = omega arith;
       few = omega arith;
       same = refl;
-      reached = record { later = refl; lent = refl; puts = record { whole = refl; after-it = refl } };
+      reached = record { later = refl; own = refl; lent = refl; puts = record { whole = refl; after-it = refl } };
       line = take-length begun;
       left = omega arith;
     }
@@ -45,7 +53,7 @@ ends-line s bytes = ended-cut s (s .line ++ bytes)
 pub put-in : (buffer : List ℕ) (at : ℕ) (text later : List ℕ) (next : ℕ) → hasRoom buffer at ≡ true → PutsWithRoom buffer at text later next → Puts buffer at text later next
 put-in buffer at text later next room p = record { whole = p .whole ∙ rw room; after-it = p .after-it ∙ rw room }
 
-module _ (start : Progress) (begun piece out : List ℕ) (book : Book) (count at put : ℕ) (slots laterOut : List ℕ) (f : FedTo start begun piece out book count at put slots laterOut) where
+module _ (start : Progress) (begun piece out : List ℕ) (book : Book) (count at put : ℕ) (store laterOut : List ℕ) (f : FedTo start begun piece out book count at put store laterOut) where
   abbrev s : Progress
   s = takingAll start (take at piece)
 
@@ -108,11 +116,11 @@ module _ (start : Progress) (begun piece out : List ℕ) (book : Book) (count at
           let ends : taking (lengthened s (take (end - at) rest)) 10 ≡ ended (with-line s (s .line ++ take (end - at) rest)) = ends-line s (take (end - at) rest) in
           count-here ∙ rw (byte, one, ends) (omega arith)
 
-    pub feed-on : end < length piece → (r : Answered) (laterSlots lastOut : List ℕ)
-        → length lastOut ≡ length laterOut → Answers book slots (take count begun ++ take (end - at) (drop at piece)) laterOut put r laterSlots lastOut
-        → FedTo start begun piece out (r .book) 0 (end + 1) (r .next) laterSlots lastOut
+    pub feed-on : end < length piece → (r : Answered) (laterStore lastOut : List ℕ)
+        → length lastOut ≡ length laterOut → Answers book store (take count begun ++ take (end - at) (drop at piece)) laterOut put r laterStore lastOut
+        → FedTo start begun piece out (r .book) 0 (end + 1) (r .next) laterStore lastOut
     unfolding ended
-    feed-on lt r laterSlots lastOut same-later a =
+    feed-on lt r laterStore lastOut same-later a =
         record {
           kept = f .kept;
           inside = omega arith;
@@ -120,6 +128,7 @@ module _ (start : Progress) (begun piece out : List ℕ) (book : Book) (count at
           same = same-later ∙ f .same;
           reached = rw (ended-here lt) (record {
             later = a .later ∙ rw (f .line, f .reached .later);
+            own = a .own ∙ rw (f .line, f .reached .later, f .reached .own);
             lent = a .lent ∙ rw (f .line, f .reached .later, f .reached .lent);
             puts = joined out 0 (s .written) (omega arith) _ laterOut put (f .reached .puts) lastOut (r .next) (put-in laterOut put _ lastOut (r .next) room (rw (← (f .reached .later), ← (f .line)) (a .puts)));
           });
@@ -127,22 +136,42 @@ module _ (start : Progress) (begun piece out : List ℕ) (book : Book) (count at
           left = rw (ended-here lt) (left-here lt);
         }
 
--- and the next byte 10 is at `end`, or the piece ends there
-pub record Seeking (book : Book) (first begun piece out : List ℕ) (last : Book) (count at put end : ℕ) (slots laterOut : List ℕ) : Type 0 where
-  pub fed : FedTo (before book first begun) begun piece out last count at put slots laterOut
+-- line after line from place `start` on: the next byte 10 is at `end`, or the piece ends there
+pub record Seeking (book : Book) (first piece : List ℕ) (start : ℕ) (out : List ℕ) (from : ℕ) (last : Book) (at put end : ℕ) (store laterOut : List ℕ) : Type 0 where
+  pub inside : at ≤ length piece
+  pub same : length laterOut ≡ length out
+  pub fed : (s : Progress) (begun whole : List ℕ) → FedTo s begun piece whole book 0 start from first out → FedTo s begun piece whole last 0 at put store laterOut
   pub ends : EndsAt piece at end
 
-pub seek-start : (book : Book) (slots begun piece out : List ℕ) → length begun ≤ 1025 → (end : ℕ) → EndsAt piece 0 end
-    → Seeking book slots begun piece out book (length begun) 0 0 end slots out
-seek-start book slots begun piece out short end e = record { fed = feed-start book slots begun piece out short; ends = e }
+pub seek-start : (book : Book) (store piece : List ℕ) (start : ℕ) (out : List ℕ) (from : ℕ) → start ≤ length piece → (end : ℕ) → EndsAt piece start end
+    → Seeking book store piece start out from book start from end store out
+seek-start book store piece start out from le end e = record { inside = le; same = refl; fed = λ s begun whole f. f; ends = e }
 
-module _ (book : Book) (first begun piece out : List ℕ) (last : Book) (count at put end : ℕ) (slots laterOut : List ℕ) (k : Seeking book first begun piece out last count at put end slots laterOut) where
-  pub seek-exact : count ≡ length (take count begun)
-  seek-exact = count-exact _ _ _ _ _ _ _ _ _ _ (k .fed)
+module _ (book : Book) (first piece : List ℕ) (start : ℕ) (out : List ℕ) (from : ℕ) (last : Book) (at put end : ℕ) (store laterOut : List ℕ) (k : Seeking book first piece start out from last at put end store laterOut) where
+  pub seek-on : (t : Bool) → t ≡ hasRoom laterOut put → t ≡ true → end < length piece → (outcome : Outcome) (laterStore : List ℕ) → Does last (asBytes (take (end - at) (drop at piece))) store outcome laterStore
+      → (lastOut : List ℕ) (next : ℕ) → PutsWithRoom laterOut put (text (answered (outcome .answer) laterStore)) lastOut next → length lastOut ≡ length laterOut
+      → (later : ℕ) → EndsAt piece (end + 1) later
+      → Seeking book first piece start out from (outcome .book) (end + 1) next later laterStore lastOut
+  seek-on t told is-room lt outcome laterStore does lastOut next puts same later e =
+      record {
+        inside = omega arith;
+        same = same ∙ k .same;
+        fed = λ s begun whole f.
+            feed-on s begun piece whole last 0 at put store laterOut (k .fed s begun whole f) t told is-room end (k .ends) lt (record { book = outcome .book; next = next }) laterStore lastOut same
+            (answers last store (take (end - at) (drop at piece)) laterOut put outcome laterStore lastOut next does puts);
+        ends = e;
+      }
 
-  pub seek-on : (t : Bool) → t ≡ hasRoom laterOut put → t ≡ true → end < length piece → (r : Answered) (laterSlots lastOut : List ℕ) → length lastOut ≡ length laterOut
-      → Answers last slots (take count begun ++ take (end - at) (drop at piece)) laterOut put r laterSlots lastOut
-      → (next : ℕ) → EndsAt piece (end + 1) next
-      → Seeking book first begun piece out (r .book) 0 (end + 1) (r .next) next laterSlots lastOut
-  seek-on t told is-room lt r laterSlots lastOut same a next e =
-      record { fed = feed-on _ _ _ _ _ _ _ _ _ _ (k .fed) t told is-room end (k .ends) lt r laterSlots lastOut same a; ends = e }
+  module _ (r : Lines) (er : r ≡ record { book = last; begun = 0; at = at; put = put }) where
+    -- no byte 10 is left
+    pub whole-over : length piece ≤ end → AnswersWholeLines book first piece start out from r store laterOut
+    whole-over ge =
+        rw er
+        record {
+          fed = k .fed;
+          over = λ (room : hasRoom laterOut put ≡ true). omega (arith, k .ends .place, k .ends .within, k .inside, length-drop at piece);
+        }
+
+    -- or no room
+    pub whole-full : (t : Bool) → t ≡ hasRoom laterOut put → t ≡ false → AnswersWholeLines book first piece start out from r store laterOut
+    whole-full t told no-room = rw er record { fed = k .fed; over = λ (room : hasRoom laterOut put ≡ true). absurd (true≢false (sym room ∙ sym told ∙ no-room)) }

@@ -1,12 +1,12 @@
 -- A line of two parts, cut to the bytes that are kept.
 -- Assumes nothing.
 use mathlib.Core.Logic.{⊎-elim}
-use mathlib.Core.List.{List, [], _∷_, _++_}
+use mathlib.Core.List.{List, [], _∷_, _++_, map}
 use mathlib.Core.Path.{_≡_, refl, sym, ap, _∙_}
 use Prim.Native.Nat.{ℕ, zero, suc, _+_, _-_, _≤_, _<_, min}
 use native.Mathlib.Nat.{eq-zero-or-pos}
 use native.Mathlib.Omega.{arith}
-use lib.ListN.{length, take, drop, getD, set, replicate, length-take}
+use lib.ListN.{length, take, drop, getD, set, replicate, length-take, length-map}
 use lib.Seq.{take-at, take-all, take-length, getD-take, length-take-le}
 use Rattle.answer.specs.Put.{placed, Puts}
 use Rattle.answer.proofs.Copying.{Copying, copy-start, copy-on, copy-end}
@@ -121,3 +121,7 @@ same-front l n = ap (λ (k : ℕ). take k l) (length-take n l) ∙ by-length l n
 -- a line so far is short
 pub begun-short : (n : ℕ) (bytes : List ℕ) → length bytes ≡ 1025 → length (take n bytes) ≤ 1025
 begun-short n bytes e = rw (length-take n bytes) (omega (arith, e))
+
+-- how many numbers an array in a struct has, as the logic holds it
+pub length-mapped : (A B : Type 0) (f : A → B) (list : List A) (n : ℕ) → length (map f list) ≡ n → length list ≡ n
+length-mapped A B f list n e = sym (length-map list f) ∙ e

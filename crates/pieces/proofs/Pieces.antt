@@ -12,7 +12,7 @@ use Rattle.model.specs.Answer.{doneText}
 use Rattle.model.specs.Step.{Request, asBytes}
 use Rattle.model.specs.Run.{after, output, recordsOf}
 use Rattle.model.proofs.Lines.{ahead, ahead-append, ahead-of-line, ahead-of-none}
-use Rattle.pieces.specs.Progress.{Progress, start, ended, lengthened, taking, takingAll, closed}
+use Rattle.pieces.specs.Progress.{Progress, start, ended, lengthened, taking, takingAll, atEnd}
 use Rattle.pieces.proofs.Cut.{take-join, with-line, ended-cut}
 
 -- a piece and the next one are one piece
@@ -40,14 +40,14 @@ ends-later s line requests last e = record { book = e .book; text = e .text ∙ 
 
 -- where `line` is the line so far
 abbrev Rest : Progress → List ℕ → List ℕ → Type 0
-Rest s line input = Ends s (map asBytes (ahead line (linesOf input))) (closed (takingAll (with-line s (take 1025 line)) input))
+Rest s line input = Ends s (map asBytes (ahead line (linesOf input))) (atEnd (takingAll (with-line s (take 1025 line)) input))
 
-last-line : (s : Progress) (c : ℕ) (line : List ℕ) → closed (with-line s (take 1025 (c ∷ line))) ≡ ended (with-line s (c ∷ line))
-unfolding closed
+last-line : (s : Progress) (c : ℕ) (line : List ℕ) → atEnd (with-line s (take 1025 (c ∷ line))) ≡ ended (with-line s (c ∷ line))
+unfolding atEnd
 last-line s c line = ended-cut s (c ∷ line)
 
 rest-none : (s : Progress) (line : List ℕ) → Rest s line []
-unfolding closed takingAll linesOf
+unfolding atEnd takingAll linesOf
 rest-none s [] = ends-now s []
 rest-none s (c ∷ line) =
     rw (last-line s c line, ahead-of-none (c ∷ line) (omega arith))
@@ -66,6 +66,6 @@ rest-is : (input : List ℕ) (s : Progress) (line : List ℕ) → Rest s line in
 rest-is [] s line = rest-none s line
 rest-is (b ∷ input) s line = rest-on s line b input (rest-is input) (eqb b 10) refl
 
--- "Each record gets the book that the one before left": whatever the lent list holds at first
-pub run-is : (slots input : List ℕ) → Ends (start slots) (recordsOf input) (closed (takingAll (start slots) input))
-run-is slots input = rest-is input (start slots) []
+-- "Each record gets the book that the one before left"
+pub run-is : (input : List ℕ) → Ends start (recordsOf input) (atEnd (takingAll start input))
+run-is input = rest-is input start []

@@ -27,9 +27,9 @@ some : (size : ℕ) (bytes : List ℕ) (s : Progress) → length (s .written) + 
 some size [] s room lt = absurd (omega arith)
 some size (b ∷ rest) s room lt = rw (takes-one size s b rest room) (omega arith)
 
-module _ (run : Run) (slots piece out : List ℕ) (r : Fed) (laterSlots laterOut : List ℕ) (f : Feeds run slots piece out r laterSlots laterOut) where
+module _ (run : Run) (store piece out : List ℕ) (r : Fed) (laterStore laterOut : List ℕ) (f : Feeds run store piece out r laterStore laterOut) where
   pub taken-few : r .taken ≤ length piece
-  taken-few = rw (f .taken) (few (length out) piece (progressOf run slots))
+  taken-few = rw (f .taken) (few (length out) piece (progressOf run store))
 
   pub taken-some : 320 ≤ length out → 0 < length piece → 0 < r .taken
-  taken-some room lt = rw (f .taken) (some (length out) piece (progressOf run slots) (omega arith) lt)
+  taken-some room lt = rw (f .taken) (some (length out) piece (progressOf run store) (omega arith) lt)

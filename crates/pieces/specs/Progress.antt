@@ -6,21 +6,23 @@ use lib.Dec.{eqb, leb}
 use lib.ListN.{length, take}
 use Rattle.model.specs.Basics.{if_then_else_}
 use Rattle.model.specs.Book.{Book, empty}
-use Rattle.model.specs.Question.{firstNo}
 use Rattle.model.specs.Answer.{text}
-use Rattle.model.specs.Step.{asBytes, asked, questions, step}
-use Rattle.ledger.specs.Does.{slotsAfter}
+use Rattle.model.specs.Step.{asBytes, step}
+use Rattle.state.specs.declared.book.Book as code
+use Rattle.state.specs.View.{emptyBook, emptyStore}
+use Rattle.ledger.specs.Does.{bookAfter, storeAfter}
 
--- the book, the lent list of patterns, the line so far, and what was written
+-- the model's book, the code's own book, the store, the line so far, and what was written
 pub record Progress : Type 0 where
   pub book : Book
-  pub slots : List ℕ
+  pub own : code.Book
+  pub store : List ℕ
   pub line : List ℕ
   pub written : List ℕ
 
 -- before the first byte
-abbrev pub start : List ℕ → Progress
-start slots = record { book = empty; slots = slots; line = []; written = [] }
+abbrev pub start : Progress
+start = record { book = empty; own = emptyBook; store = emptyStore; line = []; written = [] }
 
 -- the line has ended: it is a record, and its answer is written
 unfoldable pub ended : Progress → Progress
@@ -28,14 +30,15 @@ ended s =
     let request = asBytes (s .line) in
     record {
       book = step (s .book) request .book;
-      slots = slotsAfter (firstNo (questions (s .book) request)) (s .book) (asked request) (s .slots);
+      own = bookAfter (s .book) request (s .own);
+      store = storeAfter (s .book) request (s .store);
       line = [];
       written = s .written ++ text (step (s .book) request .answer);
     }
 
 -- the line goes on; 1,025 bytes of it are enough to refuse it
 unfoldable pub lengthened : Progress → List ℕ → Progress
-lengthened s bytes = record { book = s .book; slots = s .slots; line = take 1025 (s .line ++ bytes); written = s .written }
+lengthened s bytes = record { book = s .book; own = s .own; store = s .store; line = take 1025 (s .line ++ bytes); written = s .written }
 
 -- "Lines end with byte 10, which is not counted in the line"
 unfoldable pub taking : Progress → ℕ → Progress
@@ -51,9 +54,9 @@ takenOf size s [] = 0
 takenOf size s (b ∷ bytes) = if leb (length (s .written) + 320) size then suc (takenOf size (taking s b) bytes) else 0
 
 -- ".. or at the end of input; nothing after the last byte 10 is no record."
-abbrev closedBy : Progress → List ℕ → Progress
-closedBy s [] = s
-closedBy s (b ∷ line) = ended s
+abbrev atEndBy : Progress → List ℕ → Progress
+atEndBy s [] = s
+atEndBy s (b ∷ line) = ended s
 
-unfoldable pub closed : Progress → Progress
-closed s = closedBy s (s .line)
+unfoldable pub atEnd : Progress → Progress
+atEnd s = atEndBy s (s .line)

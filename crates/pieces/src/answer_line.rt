@@ -4,7 +4,7 @@ use crate::line::join;
 use answer::text::put_answer;
 use journal::apply::apply;
 use state::book::Book;
-use state::book::Patterns;
+use state::store::Store;
 ghost use mathlib.Core.List.{_++_};
 ghost use Rattle.pieces.specs.Feed.{Answers};
 
@@ -16,17 +16,16 @@ pub struct Answered {
 
 pub fn answer_line(
     book: Book,
-    patterns: &mut Patterns,
+    store: &mut Store,
     line: &[u8],
     out: &mut [u8],
     at: usize,
 ) -> Answered
-    ensures { λ r. ⌜ Answers book (now (patterns .entry)) (now (line .entry)) (now (out .entry)) at r (now (patterns .exit)) (now (out .exit)) ⌝ }
+    ensures { λ r. ⌜ Answers book (now (store .entry)) (now (line .entry)) (now (out .entry)) at r (now (store .exit)) (now (out .exit)) ⌝ }
 {
-    let outcome = apply(book, patterns, line);
+    let outcome = apply(book, store, line);
     let answer = outcome.answer;
-    let published = outcome.published;
-    let next = put_answer(out, at, answer, published);
+    let next = put_answer(out, at, answer, store);
     let later = outcome.book;
     Answered { book: later, next }
 }
@@ -34,19 +33,19 @@ pub fn answer_line(
 // A line of which a piece before this one held the start.
 pub fn answer_joined(
     book: Book,
-    patterns: &mut Patterns,
+    store: &mut Store,
     begun: &[u8],
     rest: &[u8],
     out: &mut [u8],
     at: usize,
 ) -> Answered
-    ensures { λ r. ⌜ Answers book (now (patterns .entry)) (now (begun .entry) ++ now (rest .entry)) (now (out .entry)) at r (now (patterns .exit)) (now (out .exit)) ⌝ }
+    ensures { λ r. ⌜ Answers book (now (store .entry)) (now (begun .entry) ++ now (rest .entry)) (now (out .entry)) at r (now (store .exit)) (now (out .exit)) ⌝ }
 {
     if begun.len() == 0 {
-        return answer_line(book, patterns, rest, out, at);
+        return answer_line(book, store, rest, out, at);
     }
     let line = join(begun, rest);
     let count = count(line);
     let bytes = line.bytes;
-    answer_line(book, patterns, &bytes[..count], out, at)
+    answer_line(book, store, &bytes[..count], out, at)
 }

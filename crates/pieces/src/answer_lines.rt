@@ -1,12 +1,15 @@
 // The lines that end in a piece, answered one after the other.
 use crate::answer_line::answer_joined;
 use answer::text::has_room;
+use answer::text::put_answer;
+use journal::apply::apply;
 use line_end::line_end;
 use state::book::Book;
-use state::book::Patterns;
+use state::store::Store;
+ghost use mathlib.Core.Path.{_≡_};
 ghost use Prim.Native.Nat.{_≤_};
 ghost use lib.ListN.{length};
-ghost use Rattle.pieces.specs.Feed.{AnswersLines};
+ghost use Rattle.pieces.specs.Feed.{AnswersLines, AnswersWholeLines, unanswered};
 
 // The later book; how many bytes of the line before the piece still wait for its end; the place after the last line; the place after the texts.
 pub struct Lines {
@@ -19,31 +22,69 @@ pub struct Lines {
 // `begun` is the line so far. It stops where the longest text has no room.
 pub fn answer_lines(
     book: Book,
-    patterns: &mut Patterns,
+    store: &mut Store,
     begun: &[u8],
     piece: &[u8],
     out: &mut [u8],
 ) -> Lines
     requires { ⌜ length (now begun) ≤ 1025 ⌝ }
-    ensures { λ r. ⌜ AnswersLines book (now (patterns .entry)) (now (begun .entry)) (now (piece .entry)) (now (out .entry)) r (now (patterns .exit)) (now (out .exit)) ⌝ }
+    ensures { λ r. ⌜ AnswersLines book (now (store .entry)) (now (begun .entry)) (now (piece .entry)) (now (out .entry)) r (now (store .exit)) (now (out .exit)) ⌝ }
+{
+    if begun.len() == 0 {
+        return answer_whole_lines(book, store, piece, 0, out, 0);
+    }
+    let end = line_end(piece, 0);
+    if end < piece.len() {
+        if has_room(out, 0) {
+            let answered = answer_joined(book, store, begun, &piece[..end], out, 0);
+            let later = answered.book;
+            return answer_whole_lines(later, store, piece, end + 1, out, answered.next);
+        }
+        return none_answered(book, begun);
+    }
+    none_answered(book, begun)
+}
+
+// No line ends, or no text has room.
+fn none_answered(book: Book, begun: &[u8]) -> Lines
+    ensures { λ r. ⌜ r ≡ unanswered book (now (begun .entry)) ⌝ }
+{
+    Lines {
+        book,
+        begun: begun.len(),
+        at: 0,
+        put: 0,
+    }
+}
+
+// The lines that stand whole in the piece, from a place on: each is read where it stands.
+fn answer_whole_lines(
+    book: Book,
+    store: &mut Store,
+    piece: &[u8],
+    start: usize,
+    out: &mut [u8],
+    first: usize,
+) -> Lines
+    requires { ⌜ start ≤ length (now piece) ⌝ }
+    ensures { λ r. ⌜ AnswersWholeLines book (now (store .entry)) (now (piece .entry)) start (now (out .entry)) first r (now (store .exit)) (now (out .exit)) ⌝ }
 {
     let mut last = book;
-    let mut count = begun.len();
-    let mut at = 0;
-    let mut put = 0;
-    let mut end = line_end(piece, 0);
+    let mut at = start;
+    let mut put = first;
+    let mut end = line_end(piece, at);
     while end < piece.len() && has_room(out, put) {
-        let answered = answer_joined(last, patterns, &begun[..count], &piece[at..end], out, put);
-        let later = answered.book;
+        let outcome = apply(last, store, &piece[at..end]);
+        let answer = outcome.answer;
+        put = put_answer(out, put, answer, store);
+        let later = outcome.book;
         last = later;
-        put = answered.next;
-        count = 0;
         at = end + 1;
         end = line_end(piece, at);
     }
     Lines {
         book: last,
-        begun: count,
+        begun: 0,
         at,
         put,
     }

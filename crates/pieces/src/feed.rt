@@ -8,8 +8,8 @@ use crate::line::join;
 use answer::text::has_room;
 use answer::text::put_done;
 use state::book::Book;
-use state::book::Patterns;
 use state::book::empty;
+use state::store::Store;
 ghost use Rattle.pieces.specs.Feed.{IsStart, Feeds, Closes, PutsDone};
 
 // What stands between two pieces.
@@ -26,11 +26,11 @@ pub struct Fed {
 }
 
 // Before the first byte.
-pub fn start() -> Run
-    ensures { λ r. ⌜ IsStart r ⌝ }
+pub fn start(store: &mut Store) -> Run
+    ensures { λ r. ⌜ IsStart r (now (store .exit)) ⌝ }
 {
     Run {
-        book: empty(),
+        book: empty(store),
         line: OpenLine {
             bytes: [0; 1025],
             count: 0,
@@ -39,13 +39,13 @@ pub fn start() -> Run
 }
 
 // Takes the bytes of a piece, and puts the answers from the start of `out` on, as long as the longest text has room.
-pub fn feed(run: Run, patterns: &mut Patterns, piece: &[u8], out: &mut [u8]) -> Fed
-    ensures { λ r. ⌜ Feeds run (now (patterns .entry)) (now (piece .entry)) (now (out .entry)) r (now (patterns .exit)) (now (out .exit)) ⌝ }
+pub fn feed(run: Run, store: &mut Store, piece: &[u8], out: &mut [u8]) -> Fed
+    ensures { λ r. ⌜ Feeds run (now (store .entry)) (now (piece .entry)) (now (out .entry)) r (now (store .exit)) (now (out .exit)) ⌝ }
 {
     let line = run.line;
     let bytes = line.bytes;
     let begun = count(line);
-    let lines = answer_lines(run.book, patterns, &bytes[..begun], piece, out);
+    let lines = answer_lines(run.book, store, &bytes[..begun], piece, out);
     let book = lines.book;
     let begun = lines.begun;
     let at = lines.at;
@@ -66,8 +66,8 @@ pub fn feed(run: Run, patterns: &mut Patterns, piece: &[u8], out: &mut [u8]) -> 
 }
 
 // The end of input: the last line, if one is open, is a record.
-pub fn close(run: Run, patterns: &mut Patterns, out: &mut [u8; 65536]) -> Answered
-    ensures { λ r. ⌜ Closes run (now (patterns .entry)) (now (out .entry)) r (now (patterns .exit)) (now (out .exit)) ⌝ }
+pub fn close(run: Run, store: &mut Store, out: &mut [u8; 65536]) -> Answered
+    ensures { λ r. ⌜ Closes run (now (store .entry)) (now (out .entry)) r (now (store .exit)) (now (out .exit)) ⌝ }
 {
     let line = run.line;
     let begun = count(line);
@@ -76,7 +76,7 @@ pub fn close(run: Run, patterns: &mut Patterns, out: &mut [u8; 65536]) -> Answer
         return Answered { book, next: 0 };
     }
     let bytes = line.bytes;
-    answer_line(book, patterns, &bytes[..begun], out, 0)
+    answer_line(book, store, &bytes[..begun], out, 0)
 }
 
 // "DONE closes every run: accepted, refused.": the counts of the last book.

@@ -1,91 +1,178 @@
--- For callers: what an answer of the reader says of the six questions.
+-- For callers: what a request and the lists say of the line that they were read from.
 -- Assumes nothing.
-use mathlib.Core.Bool.{Bool, true, false, _&&_}
-use mathlib.Core.Path.{_≡_, refl, sym, ap, _∙_}
-use mathlib.Core.List.{List, _++_}
+use mathlib.Core.Bool.{Bool, true, false, false≢true}
+use mathlib.Core.Path.{_≡_, refl, sym, _∙_}
+use mathlib.Core.List.{List, [], _∷_, map}
 use mathlib.Core.Option.{Option, none, some}
-use Prim.Native.Nat.{ℕ, suc, _-_}
+use Prim.Native.Nat.{ℕ, suc, _+_, _*_, _≤_, _<_}
 use native.Mathlib.Omega.{arith}
 use borrow.Author.Tests.{eqb-true}
-use lib.Dec.{eqb}
-use lib.IntN.{pos}
-use lib.ListN.{length, take, replicate}
-use lib.Seq.{take-at}
-use Rattle.model.specs.Basics.{if_then_else_}
-use Rattle.model.specs.Letter.{ages}
-use Rattle.model.specs.Call.{Call, declare, setRate, addPattern, closeYear}
-use Rattle.model.specs.Field.{fields, field}
-use Rattle.model.specs.Record.{wordOf, callFrom}
-use Rattle.model.specs.Step.{callOf}
-use Rattle.model.specs.Question.{Sound, isShort, hasWord, hasLetter, hasFields, hasLengths, isWellWritten, isWithinLimits, lineQuestions, firstNo}
-use Rattle.model.proofs.Lists.{all-yes, and-left, and-right}
+use lib.ListN.{length, take, drop, getD}
+use Rattle.model.specs.Basics.{if_then_else_, given}
+use Rattle.model.specs.Letter.{tenYear, ages}
+use Rattle.model.specs.Call.{Call, declare, setRate}
+use Rattle.model.specs.Field.{fields, field, letterIn, column}
+use Rattle.model.specs.Record.{Word, LINE, RATE, PATT, YEAR, OTHER, wordOf, fieldCount, firstNumber, callFrom}
+use Rattle.model.specs.Step as model
+use Rattle.model.specs.Question.{isShort, hasWord, hasLetter, hasFields, isWellWritten, isWithinLimits, lineQuestions, callQuestions, firstNo}
+use Rattle.model.proofs.Lists.{some≢none, all-yes}
 use Rattle.model.proofs.Lengths.{lengths-right}
-use Rattle.refusal.specs.Number.{refusalOf}
-use Rattle.record.specs.Request.{refusedAt, asks, answered, readOf, requestFor, requestOf, saying, says}
+use Rattle.refusal.specs.Number.{numberOf, refusalOf}
+use Rattle.numbers.specs.Number.{capped, hasMinus}
+use Rattle.record.specs.Column.{each, sizeAt, paidAt}
+use Rattle.record.specs.Request.{askedOf, answered, withNumbers, leftIn, readOf, Gives}
+use Rattle.record.specs.Asks.{patternOf, yearOf, Low, Asks, Says}
 use Rattle.record.specs.declared.request.Request.{Request}
 use Rattle.record.specs.declared.request.Asked.{Asked}
-use Rattle.record.proofs.Questions.{read-from}
+use Rattle.record.proofs.Caps.{cappedPaid, Alike, line-same, rate-same, pattern-same, year-same}
+use Rattle.record.proofs.Columns.{each-column, part-column}
+use Rattle.record.proofs.Gathers.{gathered-at, gathered-length}
+use Rattle.record.proofs.Questions.{room}
 
--- a list that has its length comes back from its places
-back : {A : Type 0} (n room : ℕ) (z : A) (list : List A) → eqb (length list) n ≡ true → take n (list ++ replicate (room - length list) z) ≡ list
-back n room z list e = take-at list (replicate (room - length list) z) n (eqb-true (length list) n e)
+-- how many fields a record has, by its line's ages
+patt-by : (t : Bool) → (if t then 23 else 7) ≡ 3 + 2 * (if t then 10 else 2)
+patt-by true = refl
+patt-by false = refl
 
--- the request of a call says the call
-says-call : (call : Call) → hasLengths call ≡ true → says (requestFor call) ≡ asks call
-says-call (declare letter opening) h = refl
-says-call (setRate year months) h = refl
-says-call (addPattern letter year paid incurred) h =
-    rw (back (ages letter) 10 0 paid (and-left (eqb (length paid) (ages letter)) (eqb (length incurred) (ages letter)) h), back (ages letter) 10 0 incurred (and-right (eqb (length paid) (ages letter)) (eqb (length incurred) (ages letter)) h))
-says-call (closeYear letter year paid unpaid tabular) h =
-    let n = suc (ages letter) in
-    let front = and-left (eqb (length paid) n && eqb (length unpaid) n) (eqb (length tabular) n) h in
-    rw (back n 11 (pos 0) paid (and-left (eqb (length paid) n) (eqb (length unpaid) n) front), back n 11 0 unpaid (and-right (eqb (length paid) n) (eqb (length unpaid) n) front), back n 11 0 tabular (and-right (eqb (length paid) n && eqb (length unpaid) n) (eqb (length tabular) n) h))
+patt-count : (letter : ℕ) → fieldCount PATT letter ≡ 3 + 2 * ages letter
+unfolding ages
+patt-count letter = patt-by (tenYear letter)
 
-says-table : (a b c d e f : Bool) (call : Call) → hasLengths call ≡ true
-    → let read = if a then (if b then (if c then (if d then (if e then (if f then asks call else refusedAt 6) else refusedAt 5) else refusedAt 4) else refusedAt 3) else refusedAt 2) else refusedAt 1 in
-    says (requestOf read) ≡ read
-unfolding refusalOf
-says-table false b c d e f call h = refl
-says-table true false c d e f call h = refl
-says-table true true false d e f call h = refl
-says-table true true true false e f call h = refl
-says-table true true true true false f call h = refl
-says-table true true true true true false call h = refl
-says-table true true true true true true call h = says-call call h
+year-by : (t : Bool) → (if t then 36 else 12) ≡ 6 + 3 * (if t then 10 else 2)
+year-by true = refl
+year-by false = refl
 
--- what is read of a line says what the line says
-says-read : (line : List ℕ) → says (requestOf (readOf line)) ≡ readOf line
-says-read line =
+year-count : (letter : ℕ) → fieldCount YEAR letter ≡ 6 + 3 * ages letter
+unfolding ages
+year-count letter = year-by (tenYear letter)
+
+-- each number of a record stands at its field's place
+record Placed (word : Word) (fs : List (List ℕ)) (minus : List Bool) (sizes : List ℕ) : Type 0 where
+  total : length fs ≡ fieldCount word (letterIn fs)
+  long : length sizes ≡ 62
+  signs : (k : ℕ) → firstNumber word ≤ k → k < length fs → getD minus k false ≡ hasMinus (field k fs)
+  values : (k : ℕ) → firstNumber word ≤ k → k < length fs → getD sizes k 0 ≡ capped (field k fs)
+
+-- the calls of the lists, beside the line's
+module _ (fs : List (List ℕ)) (minus : List Bool) (sizes : List ℕ) where
+  line-alike : Placed LINE fs minus sizes → Alike (declare (letterIn fs) (getD sizes 2 0)) (callFrom LINE fs)
+  unfolding callFrom
+  line-alike p =
+      let n = p .total in
+      rw (p .values 2 (omega arith) (omega arith)) (line-same (letterIn fs) (field 2 fs))
+
+  rate-alike : Placed RATE fs minus sizes → Alike (setRate (getD sizes 1 0) (take 60 (drop 2 sizes))) (callFrom RATE fs)
+  unfolding callFrom
+  rate-alike p =
+      let n = p .total in
+      let months : take 60 (drop 2 sizes) ≡ map capped (column 60 1 2 fs) = part-column sizes 0 capped fs 60 2 (omega (arith, p .long)) (λ i ge lt. p .values i (omega arith) (omega arith)) in
+      rw (p .values 1 (omega arith) (omega arith), months) (rate-same (field 1 fs) (column 60 1 2 fs))
+
+  pattern-alike : Placed PATT fs minus sizes → Alike (patternOf (letterIn fs) sizes) (callFrom PATT fs)
+  unfolding callFrom
+  pattern-alike p =
+      let k = ages (letterIn fs) in
+      let n : length fs ≡ 3 + 2 * ages (letterIn fs) = p .total ∙ patt-count (letterIn fs) in
+      let year : getD sizes 2 0 ≡ capped (field 2 fs) = p .values 2 (omega arith) (omega arith) in
+      let paid : each (sizeAt sizes) (ages (letterIn fs)) 2 3 ≡ map capped (column (ages (letterIn fs)) 2 3 fs) = each-column (sizeAt sizes) capped fs k 2 3 (λ i lt. p .values (3 + i * 2) (omega arith) (omega arith)) in
+      let incurred : each (sizeAt sizes) (ages (letterIn fs)) 2 4 ≡ map capped (column (ages (letterIn fs)) 2 4 fs) = each-column (sizeAt sizes) capped fs k 2 4 (λ i lt. p .values (4 + i * 2) (omega arith) (omega arith)) in
+      rw (year, paid, incurred) (pattern-same (letterIn fs) (field 2 fs) (column k 2 3 fs) (column k 2 4 fs))
+
+  year-alike : Placed YEAR fs minus sizes → Alike (yearOf (letterIn fs) minus sizes) (callFrom YEAR fs)
+  unfolding callFrom
+  year-alike p =
+      let k = suc (ages (letterIn fs)) in
+      let n : length fs ≡ 6 + 3 * ages (letterIn fs) = p .total ∙ year-count (letterIn fs) in
+      let year : getD sizes 2 0 ≡ capped (field 2 fs) = p .values 2 (omega arith) (omega arith) in
+      let paid : each (paidAt minus sizes) (suc (ages (letterIn fs))) 3 3 ≡ map cappedPaid (column (suc (ages (letterIn fs))) 3 3 fs) =
+      each-column (paidAt minus sizes) cappedPaid fs k 3 3 (λ i lt. rw (p .signs (3 + i * 3) (omega arith) (omega arith), p .values (3 + i * 3) (omega arith) (omega arith))) in
+      let unpaid : each (sizeAt sizes) (suc (ages (letterIn fs))) 3 4 ≡ map capped (column (suc (ages (letterIn fs))) 3 4 fs) = each-column (sizeAt sizes) capped fs k 3 4 (λ i lt. p .values (4 + i * 3) (omega arith) (omega arith)) in
+      let tabular : each (sizeAt sizes) (suc (ages (letterIn fs))) 3 5 ≡ map capped (column (suc (ages (letterIn fs))) 3 5 fs) = each-column (sizeAt sizes) capped fs k 3 5 (λ i lt. p .values (5 + i * 3) (omega arith) (omega arith)) in
+      rw (year, paid, unpaid, tabular) (year-same (letterIn fs) (field 2 fs) (column k 3 3 fs) (column k 3 4 fs) (column k 3 5 fs))
+
+  low : Placed YEAR fs minus sizes → Low (suc (ages (letterIn fs))) sizes
+  low p i lt =
+      let n : length fs ≡ 6 + 3 * ages (letterIn fs) = p .total ∙ year-count (letterIn fs) in
+      omega (arith, p .values (3 + i * 3) (omega arith) (omega arith))
+
+-- a list is as long as it was
+long-by : (t : Bool) (list left : List ℕ) → length left ≡ length list → length (if t then list else left) ≡ length list
+long-by true list left e = refl
+long-by false list left e = e
+
+pub sizes-long : (line : List ℕ) (minus : List Bool) (sizes : List ℕ) (r : Request) (ms : List Bool) (ns : List ℕ) → Gives (readOf line minus sizes) r ms ns → length ns ≡ length sizes
+unfolding readOf
+sizes-long line minus sizes r ms ns g =
     let word = wordOf (field 0 (fields line)) in
-    let call = callFrom word (fields line) in
-    rw (read-from line) (says-table (isShort line) (hasWord word) (hasLetter call) (hasFields word (fields line)) (isWellWritten word (fields line)) (isWithinLimits call) call (lengths-right word (fields line)))
+    rw (g .values) (long-by (given (firstNo (take 3 (lineQuestions line)))) sizes (withNumbers capped word (fields line) sizes) (gathered-length capped word (firstNumber word) (fieldCount word (letterIn (fields line))) (fields line) sizes))
 
--- by what is asked: a question's number, or the call
-pub said : (r : Request) (line : List ℕ) → r ≡ requestOf (readOf line) → (asked : Asked) → r .asked ≡ asked → readOf line ≡ saying asked r
-said r line h asked e = sym (says-read line) ∙ ap says (sym h) ∙ ap (λ (a : Asked). saying a r) e
+-- the number of the question that is answered no
+numbered : (n q : ℕ) → _≡_ {A = Option ℕ} (some n) (some q) → numberOf (refusalOf n) ≡ n → _≡_ {A = Option ℕ} (some n) (some (numberOf (refusalOf q)))
+numbered n q e back = let same : q ≡ n = cc in rw (same, back)
 
--- the first question that is answered no
-answered-no : (o : Option ℕ) (call : Call) (q : ℕ) → answered o call ≡ refusedAt q → o ≡ some q
-answered-no none call q e = let z : _≡_ {A = ℕ} 0 1 = cc in absurd (omega arith)
-answered-no (some k) call q e = cc
+no-table : (a b c d e f : Bool) (q : ℕ)
+    → let questions : List (ℕ × Bool) = (1, a) ∷ (2, b) ∷ (3, c) ∷ (4, d) ∷ (5, e) ∷ (6, f) ∷ [] in
+    firstNo (take 5 questions) ≡ some q → firstNo questions ≡ some (numberOf (refusalOf q))
+unfolding refusalOf
+no-table false b c d e f q h = numbered 1 q h refl
+no-table true false c d e f q h = numbered 2 q h refl
+no-table true true false d e f q h = numbered 3 q h refl
+no-table true true true false e f q h = numbered 4 q h refl
+no-table true true true true false f q h = numbered 5 q h refl
+no-table true true true true true f q h = absurd (some≢none q (sym h))
 
-pub refused-is : (line : List ℕ) (q : ℕ) → readOf line ≡ refusedAt q → firstNo (lineQuestions line) ≡ some q
-unfolding readOf
-refused-is line q e = answered-no (firstNo (lineQuestions line)) (callOf line) q e
+-- one of questions 1 to 5 answered no, or none
+module _ (line : List ℕ) where
+  refused : (q : ℕ) → firstNo (take 5 (lineQuestions line)) ≡ some q → firstNo (lineQuestions line) ≡ some (numberOf (refusalOf q))
+  unfolding lineQuestions
+  refused q h =
+      let word = wordOf (field 0 (fields line)) in
+      let call = callFrom word (fields line) in
+      no-table (isShort line) (hasWord word) (hasLetter call) (hasFields word (fields line)) (isWellWritten word (fields line)) (isWithinLimits call) q h
 
--- no question is answered no, and the call is the one that the line makes
-answered-yes : (o : Option ℕ) (call c : Call) → answered o call ≡ asks c → (o ≡ none) × (c ≡ call)
-answered-yes none call c e = (refl, cc)
-answered-yes (some k) call c e = let z : _≡_ {A = ℕ} 0 1 = cc in absurd (omega arith)
+  module _ (passed : firstNo (take 5 (lineQuestions line)) ≡ none) where
+    asks : (call : Call) → Alike call (model.callOf line) → Asks line call
+    unfolding lineQuestions callQuestions
+    asks call a =
+        let y = all-yes (take 5 (lineQuestions line)) passed in
+        let lettered = a .letter ∙ y .1 .1 .0 in
+        let counted = a .lengths ∙ lengths-right (wordOf (field 0 (fields line))) (fields line) in
+        record {
+          first = rw (y .0, y .1 .0, y .1 .1 .0, y .1 .1 .1 .0, y .1 .1 .1 .1 .0, lettered, counted, a .limits);
+          same = λ e. a .same (all-yes (lineQuestions line) e .1 .1 .1 .1 .1 .0);
+        }
 
-pub asked-is : (line : List ℕ) (call : Call) → readOf line ≡ asks call → (firstNo (lineQuestions line) ≡ none) × (call ≡ callOf line)
-unfolding readOf
-asked-is line call e = answered-yes (firstNo (lineQuestions line)) (callOf line) call e
+    says-word : (word : Word) → word ≡ wordOf (field 0 (fields line)) → hasWord word ≡ true → (minus : List Bool) (sizes : List ℕ) → Placed word (fields line) minus sizes → Says (askedOf word) (letterIn (fields line)) minus sizes line
+    says-word LINE e h minus sizes p = asks (declare (letterIn (fields line)) (getD sizes 2 0)) (rw (← e) (line-alike (fields line) minus sizes p))
+    says-word RATE e h minus sizes p = asks (setRate (getD sizes 1 0) (take 60 (drop 2 sizes))) (rw (← e) (rate-alike (fields line) minus sizes p))
+    says-word PATT e h minus sizes p = asks (patternOf (letterIn (fields line)) sizes) (rw (← e) (pattern-alike (fields line) minus sizes p))
+    says-word YEAR e h minus sizes p = (asks (yearOf (letterIn (fields line)) minus sizes) (rw (← e) (year-alike (fields line) minus sizes p)), low (fields line) minus sizes p)
+    says-word OTHER e h minus sizes p = absurd (false≢true h)
 
--- what is asked has a covered letter, lists of the right lengths, and numbers within their limits
-pub asked-sound : (line : List ℕ) (call : Call) → readOf line ≡ asks call → Sound call
-unfolding lineQuestions
-asked-sound line call e =
-    let a = asked-is line call e in
-    let y = all-yes (lineQuestions line) (a .0) in
-    rw (a .1) record { letter = y .1 .1 .0; lengths = lengths-right (wordOf (field 0 (fields line))) (fields line); limits = y .1 .1 .1 .1 .1 .0 }
+    module _ (minus : List Bool) (sizes : List ℕ) (lm : length minus ≡ 62) (ls : length sizes ≡ 62) where
+      passed-says : let word = wordOf (field 0 (fields line)) in Says (askedOf word) (letterIn (fields line)) (leftIn hasMinus line minus) (leftIn capped line sizes) line
+      unfolding lineQuestions
+      passed-says =
+          let fs = fields line in
+          let word = wordOf (field 0 fs) in
+          let y = all-yes (take 5 (lineQuestions line)) passed in
+          let total : length (fields line) ≡ fieldCount (wordOf (field 0 (fields line))) (letterIn (fields line)) = eqb-true _ _ (y .1 .1 .1 .0) in
+          let few = room word (letterIn fs) (y .1 .0) .1 in
+          let p : Placed word fs (withNumbers hasMinus word fs minus) (withNumbers capped word fs sizes) =
+          record {
+            total = total;
+            long = gathered-length capped word (firstNumber word) (fieldCount word (letterIn fs)) fs sizes ∙ ls;
+            signs = λ k ge lt. rw (← total) (gathered-at hasMinus word (firstNumber word) fs minus false (y .1 .1 .1 .1 .0) (omega arith) k ge lt);
+            values = λ k ge lt. rw (← total) (gathered-at capped word (firstNumber word) fs sizes 0 (y .1 .1 .1 .1 .0) (omega arith) k ge lt);
+          } in
+          rw (y .0, y .1 .0, y .1 .1 .0) (says-word word refl (y .1 .0) (withNumbers hasMinus word fs minus) (withNumbers capped word fs sizes) p)
+
+-- of any line: what the request and the lists say
+module _ (line : List ℕ) (minus : List Bool) (sizes : List ℕ) (lm : length minus ≡ 62) (ls : length sizes ≡ 62) where
+  said-by : (o : Option ℕ) → firstNo (take 5 (lineQuestions line)) ≡ o → Says (answered o (fields line) .asked) (answered o (fields line) .letter) (leftIn hasMinus line minus) (leftIn capped line sizes) line
+  said-by none e = passed-says line e minus sizes lm ls
+  said-by (some q) e = refused line q e
+
+  pub said : (r : Request) (ms : List Bool) (ns : List ℕ) → Gives (readOf line minus sizes) r ms ns → (asked : Asked) → r .asked ≡ asked → Says asked (r .letter) ms ns line
+  unfolding readOf
+  said r ms ns g asked e = rw (← e, g .request, g .signs, g .values) (said-by (firstNo (take 5 (lineQuestions line))) refl)

@@ -1,6 +1,6 @@
 -- The questions from each one on, and what the ones before have shown.
 -- Assumes nothing: these are definitions.
-use mathlib.Core.Bool.{true}
+use mathlib.Core.Bool.{Bool, true}
 use mathlib.Core.Path.{_≡_}
 use mathlib.Core.List.{List}
 use Prim.Native.Nat.{ℕ}
@@ -8,20 +8,28 @@ use Rattle.model.specs.Basics.{if_then_else_}
 use Rattle.model.specs.Field.{fields, letterIn}
 use Rattle.model.specs.Record.{Word, callFrom}
 use Rattle.model.specs.Question.{hasWord, hasLetter, hasFields, isWellWritten}
-use Rattle.record.specs.Request.{Read, refusedAt}
-use Rattle.record.specs.Limits.{judged}
+use Rattle.refusal.specs.declared.Refusal.{Refusal}
+use Rattle.refusal.specs.declared.Refusal.the-variants.{UnknownWord, UncoveredLetter, WrongCount, BadlyWritten}
+use Rattle.numbers.specs.Number.{capped, hasMinus}
+use Rattle.record.specs.Request.{refusedFor, asking, withNumbers, LineRead}
 
-abbrev pub fromWriting : Word → List (List ℕ) → Read
-fromWriting word fs = if isWellWritten word fs then judged (callFrom word fs) else refusedAt 5
+-- a refusal that leaves the lists as they were
+abbrev pub unread : Refusal → List Bool → List ℕ → LineRead
+unread refusal minus sizes = record { request = refusedFor refusal; minus = minus; sizes = sizes }
 
-abbrev pub fromCount : Word → List (List ℕ) → Read
-fromCount word fs = if hasFields word fs then fromWriting word fs else refusedAt 4
+abbrev pub fromCount : Word → List (List ℕ) → List Bool → List ℕ → LineRead
+fromCount word fs minus sizes =
+    record {
+      request = if hasFields word fs then (if isWellWritten word fs then asking word fs else refusedFor BadlyWritten) else refusedFor WrongCount;
+      minus = withNumbers hasMinus word fs minus;
+      sizes = withNumbers capped word fs sizes;
+    }
 
-abbrev pub fromLetter : Word → List (List ℕ) → Read
-fromLetter word fs = if hasLetter (callFrom word fs) then fromCount word fs else refusedAt 3
+abbrev pub fromLetter : Word → List (List ℕ) → List Bool → List ℕ → LineRead
+fromLetter word fs minus sizes = if hasLetter (callFrom word fs) then fromCount word fs minus sizes else unread UncoveredLetter minus sizes
 
-abbrev pub fromWord : Word → List (List ℕ) → Read
-fromWord word fs = if hasWord word then fromLetter word fs else refusedAt 2
+abbrev pub fromWord : Word → List (List ℕ) → List Bool → List ℕ → LineRead
+fromWord word fs minus sizes = if hasWord word then fromLetter word fs minus sizes else unread UnknownWord minus sizes
 
 -- one of the four words, and the letter
 pub record Lettered (line : List ℕ) (word : Word) (letter : ℕ) : Type 0 where

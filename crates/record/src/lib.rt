@@ -1,7 +1,4 @@
-// A record read: the request that a line makes, or the first of questions 1 to 6 that is answered no. `read` is the way in.
-mod column;
+// A record read: what a line asks, or the first of questions 1 to 5 that is answered no. `read` is the way in.
 mod gather;
-mod limits;
 pub mod read;
-mod refused_request;
 pub mod request;

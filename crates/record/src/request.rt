@@ -1,4 +1,4 @@
-// What a line asks of the book: a call of one of the four kinds, or nothing, where one of questions 1 to 6 is answered no.
+// What a line asks of the book: a call of one of the four kinds, or nothing, where one of questions 1 to 5 is answered no.
 use refusal::Refusal;
 
 // What is wrong at the first question that is answered no; or the kind of the call.
@@ -10,16 +10,8 @@ pub enum Asked {
     CloseYear,
 }
 
-// What is not of the kind is 0. A pattern's arrays are by age, youngest first; a year's are by row, the prior row last.
+// The letter is the byte that the second field is, and 0 where that is not one byte, or the line is refused.
 pub struct Request {
     pub asked: Asked,
     pub letter: u8,
-    pub opening: u64,
-    pub year: u64,
-    pub months: [u64; 60],
-    pub paid: [u64; 10],
-    pub incurred: [u64; 10],
-    pub payments: [i64; 11],
-    pub unpaid: [u64; 11],
-    pub tabular: [u64; 11],
 }

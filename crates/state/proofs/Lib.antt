@@ -1,10 +1,13 @@
 pub mod CellLimits
 pub mod EmptyBook
 pub mod FactorLimits
+pub mod HintPieces
 pub mod KeptPatterns
 pub mod KeptYears
-pub mod Maps
+pub mod Limited
+pub mod LinePieces
+pub mod Pieces
 pub mod Places
 pub mod RatePlaces
+pub mod SlotPieces
 pub mod Views
-pub mod Writes

@@ -1,77 +1,67 @@
--- What the view shows after a store: one line, and the lines of the other letters as they were.
+-- What the view shows after a write.
 -- Assumes nothing.
 use mathlib.Core.Bool.{Bool, true, false}
-use mathlib.Core.List.{List, map}
+use mathlib.Core.List.{List}
 use mathlib.Core.Option.{none, some}
-use mathlib.Core.Path.{_≡_, refl, sym, ap, _∙_, fun-ext}
-use Prim.Native.Nat.{ℕ, zero, suc, _-_, min}
-use native.Mathlib.Omega.{arith}
+use mathlib.Core.Path.{_≡_, refl, ap, _∙_, fun-ext}
+use Prim.Native.Nat.{ℕ, zero, suc, _-_}
 use borrow.Author.Tests.{eqb-false}
-use lib.ListN.{length, getD, set, length-map}
-use lib.Seq.{getD-set-same, getD-set-other}
+use lib.ListN.{length}
 use Rattle.model.specs.Basics.{if_then_else_, given, put}
+use Rattle.model.specs.Kind.{isYear}
 use Rattle.model.specs.Letter.{covered}
-use Rattle.model.specs.Book as model
 use Rattle.model.proofs.Lists.{put-all}
-use Rattle.state.specs.declared.book.Book.{Book}
-use Rattle.state.specs.declared.book.Line.{Line}
-use Rattle.state.specs.Lines.{placeOf, noLine, lineAt}
-use Rattle.state.specs.Patterns.{slotOf, slotAt, keptBack, keptCount}
+use Rattle.state.specs.declared.lines.Line.{Line}
+use Rattle.state.specs.Store.{size}
+use Rattle.state.specs.Hints.{withHintOf}
+use Rattle.state.specs.Lines.{Limited, lineAt, withLineOf}
+use Rattle.state.specs.Patterns.{slotAt, keptBack}
 use Rattle.state.specs.View.{lineOf, linesOf}
-use Rattle.state.proofs.Places.{covered-place, places-differ}
-
--- a letter's line
-line-by : (book : Book) (slots : List ℕ) (letter : ℕ) (t : Bool) → covered letter ≡ t → linesOf (book .lines) slots letter ≡ lineOf slots letter (lineAt book letter)
-unfolding linesOf lineOf keptCount keptBack
-line-by book slots letter true c = rw c
-line-by book slots letter false c = rw c
-
-pub line-is : (book : Book) (slots : List ℕ) (letter : ℕ) → linesOf (book .lines) slots letter ≡ lineOf slots letter (lineAt book letter)
-line-is book slots letter = line-by book slots letter (covered letter) refl
+use Rattle.state.proofs.HintPieces as hint
+use Rattle.state.proofs.LinePieces.{line-here, lines-beside, slots-same}
 
 -- patterns in slots that hold the same
-pub kept-same : (slots later : List ℕ) (letter : ℕ) → ((year : ℕ) → slotAt later (slotOf letter year) ≡ slotAt slots (slotOf letter year)) → (n year : ℕ) → keptBack later letter n year ≡ keptBack slots letter n year
+pub kept-same : (store later : List ℕ) (letter : ℕ) → ((year : ℕ) → slotAt later letter year ≡ slotAt store letter year) → (n year : ℕ) → keptBack later letter n year ≡ keptBack store letter n year
 unfolding keptBack
-kept-same slots later letter h zero year = refl
-kept-same slots later letter h (suc n) year = rw (h year, kept-same slots later letter h n (year - 1))
+kept-same store later letter h zero year = refl
+kept-same store later letter h (suc n) year = rw (h year, kept-same store later letter h n (year - 1))
 
--- the slots of every other letter hold the same
-abbrev pub Beside : List ℕ → List ℕ → ℕ → Type 0
-Beside slots later letter = (other year : ℕ) → covered other ≡ true → (other ≡ letter → ⊥) → slotAt later (slotOf other year) ≡ slotAt slots (slotOf other year)
+pub line-same : (store later : List ℕ) (letter : ℕ) → ((year : ℕ) → slotAt later letter year ≡ slotAt store letter year) → (line : Line) → lineOf later letter line ≡ lineOf store letter line
+unfolding lineOf
+line-same store later letter h line = rw (kept-same store later letter h (line .kept) (line .last))
 
-module _ (lines : List Line) (slots later : List ℕ) (letter : ℕ) (line : Line) (c : covered letter ≡ true) (n : length lines ≡ 15) (beside : Beside slots later letter) where
-  abbrev stored : List Line
-  stored = set lines (placeOf letter) line
+-- a letter whose line and slots are the same
+pub shown-same : (store later : List ℕ) (letter : ℕ) → lineAt later letter ≡ lineAt store letter → ((year : ℕ) → slotAt later letter year ≡ slotAt store letter year) → linesOf later letter ≡ linesOf store letter
+unfolding linesOf
+shown-same store later letter e h = rw e (line-same store later letter h (lineAt store letter))
 
-  here : linesOf stored later letter ≡ lineOf later letter line
-  unfolding linesOf
-  here = rw (c, getD-set-same lines (placeOf letter) line noLine (omega (arith, covered-place letter c)))
+-- one line is shown anew, and the others are as they were
+pub put-shown : (store later : List ℕ) (letter : ℕ) (line : Line) → lineAt later letter ≡ line → ((other : ℕ) → (other ≡ letter → ⊥) → linesOf later other ≡ linesOf store other)
+    → linesOf later ≡ put (linesOf store) letter (lineOf later letter line)
+unfolding linesOf
+put-shown store later letter line e same =
+    fun-ext (put-all (λ other shown. linesOf later other ≡ shown) (linesOf store) letter (lineOf later letter line) (rw e) (λ other f. same other (eqb-false other letter f)))
 
-  other-covered : (other : ℕ) → (other ≡ letter → ⊥) → covered other ≡ true → lineOf later other (getD stored (placeOf other) noLine) ≡ lineOf slots other (getD lines (placeOf other) noLine)
-  unfolding lineOf
-  other-covered other differ o =
-      rw (getD-set-other lines (placeOf letter) (placeOf other) line noLine (places-differ other letter o c differ))
-      (ap (λ (kept : List model.Kept). record { opening = lineOf slots other (getD lines (placeOf other) noLine) .opening; closed = lineOf slots other (getD lines (placeOf other) noLine) .closed; kept = kept }) (kept-same slots later other (λ year. beside other year o differ) (keptCount other (getD lines (placeOf other) noLine)) (getD lines (placeOf other) noLine .last)))
+-- a line kept
+pub lines-put : (store : List ℕ) (letter : ℕ) (line : Line) → covered letter ≡ true → length store ≡ size → Limited letter line → linesOf (withLineOf store letter line) ≡ put (linesOf store) letter (lineOf store letter line)
+lines-put store letter line c n l =
+    let later : List ℕ = withLineOf store letter line in
+    put-shown store later letter line (line-here store letter line c n l) (λ other differ. shown-same store later other (lines-beside store letter line c n other differ) (slots-same store letter line c n other))
+    ∙ ap (put (linesOf store) letter) (line-same store later letter (slots-same store letter line c n letter) line)
 
-  elsewhere : (other : ℕ) → (other ≡ letter → ⊥) → (t : Bool) → covered other ≡ t → linesOf stored later other ≡ linesOf lines slots other
-  unfolding linesOf
-  elsewhere other differ true o = rw o (other-covered other differ o)
-  elsewhere other differ false o = rw o
-
-  pub lines-put : linesOf (if covered letter then stored else lines) later ≡ put (linesOf lines slots) letter (lineOf later letter line)
-  lines-put =
-      rw c
-      (fun-ext (put-all (λ other shown. linesOf stored later other ≡ shown) (linesOf lines slots) letter (lineOf later letter line) here (λ other e. elsewhere other (eqb-false other letter e) (covered other) refl)))
+-- a hint kept
+pub hint-unseen : (store : List ℕ) (year factor : ℕ) → isYear year ≡ true → length store ≡ size → linesOf (withHintOf store year factor) ≡ linesOf store
+hint-unseen store year factor y n = fun-ext (λ letter. shown-same store (withHintOf store year factor) letter (hint.lines-same store year factor y n letter) (hint.slots-same store year factor y n letter))
 
 -- is the line declared?
 declared-by : (t : Bool) (n : ℕ) → given (if t then some n else none) ≡ t
 declared-by true n = refl
 declared-by false n = refl
 
-pub declared-is : (book : Book) (slots : List ℕ) (letter : ℕ) (line : Line) → line ≡ lineAt book letter → given (linesOf (book .lines) slots letter .opening) ≡ line .declared
-unfolding lineOf
-declared-is book slots letter line here = rw (line-is book slots letter, ← here) (declared-by (line .declared) (min (line .opening) 100000000000))
+pub declared-is : (store : List ℕ) (letter : ℕ) (line : Line) → line ≡ lineAt store letter → given (linesOf store letter .opening) ≡ line .declared
+unfolding linesOf lineOf
+declared-is store letter line here = rw (← here) (declared-by (line .declared) (line .opening))
 
--- how many lines there are, of an array of structs as the logic holds it
-pub length-mapped : (A B : Type 0) (f : A → B) (list : List A) (n : ℕ) → length (map f list) ≡ n → length list ≡ n
-length-mapped A B f list n e = sym (length-map list f) ∙ e
+pub line-is : (store : List ℕ) (letter : ℕ) (line : Line) → line ≡ lineAt store letter → linesOf store letter ≡ lineOf store letter line
+unfolding linesOf
+line-is store letter line here = rw here

@@ -1,4 +1,6 @@
+pub mod Hints
 pub mod Lines
 pub mod Patterns
 pub mod Rates
+pub mod Store
 pub mod View

@@ -1,41 +1,85 @@
--- The lines of the covered letters, each at its place.
+-- The lines of the covered letters in the store, each at its place, and each cell read through its limit.
 -- Assumes nothing: these are definitions.
-use mathlib.Core.Bool.{true, false}
-use Prim.Native.Nat.{ℕ, _-_, min}
-use lib.Dec.{leb}
-use lib.ListN.{getD, set}
+use mathlib.Core.Bool.{true, false, _&&_}
+use mathlib.Core.List.{List, [], _∷_}
+use mathlib.Core.Path.{_≡_}
+use Prim.Native.Nat.{ℕ, _+_, _-_, _*_, min}
+use lib.Dec.{leb, ltb}
+use lib.ListN.{getD}
 use Rattle.model.specs.Basics.{if_then_else_}
-use Rattle.model.specs.Letter.{covered}
-use Rattle.state.specs.declared.book.Book.{Book}
-use Rattle.state.specs.declared.book.Line.{Line}
+use Rattle.model.specs.Kind.{isYear}
+use Rattle.model.specs.Letter.{covered, ages}
+use Rattle.state.specs.declared.lines.Line.{Line}
+use Rattle.state.specs.Store.{piece, written}
 
 -- A to L (76) have the first twelve places, and R to T the next three
 abbrev pub placeOf : ℕ → ℕ
 placeOf letter = if leb letter 76 then letter - 65 else letter - 70
 
+-- where the six cells of a line start
+abbrev pub lineStart : ℕ → ℕ
+lineStart letter = placeOf letter * 6
+
 -- an undeclared line
 abbrev pub noLine : Line
 noLine = record { declared = false; opening = 0; closed = 0; closing = 0; last = 0; kept = 0 }
 
+-- a line by its cells, and its cells
+abbrev pub lineIn : List ℕ → Line
+lineIn cells =
+    record { declared = ltb 0 (getD cells 0 0); opening = getD cells 1 0; closed = getD cells 2 0; closing = getD cells 3 0; last = getD cells 4 0; kept = getD cells 5 0 }
+
+abbrev pub cellsOf : Line → List ℕ
+cellsOf line = (if line .declared then 1 else 0) ∷ line .opening ∷ line .closed ∷ line .closing ∷ line .last ∷ line .kept ∷ []
+
+-- what lies past its limit is read as the limit
+abbrev pub openingIn : ℕ → ℕ
+openingIn cell = min cell 100000000000
+
+abbrev pub closingIn : ℕ → ℕ
+closingIn cell = min cell 110000000000
+
+-- how many patterns are kept: none where the year of the last one is no year, and at most ten, or two
+abbrev pub keptIn : ℕ → ℕ → ℕ → ℕ
+keptIn letter last cell = if isYear last then min cell (ages letter) else 0
+
+-- the last closed year, or 0: it is read only where a pattern is kept, and not after that pattern's year
+abbrev pub closedIn : ℕ → ℕ → ℕ → ℕ
+closedIn cell last kept = if isYear cell && ltb 0 kept && leb cell last then cell else 0
+
+-- a line as it is read: each cell through its limit
+unfoldable pub limitedOf : ℕ → Line → Line
+limitedOf letter line =
+    let kept = keptIn letter (line .last) (line .kept) in
+    record {
+      declared = line .declared;
+      opening = openingIn (line .opening);
+      closed = closedIn (line .closed) (line .last) kept;
+      closing = closingIn (line .closing);
+      last = line .last;
+      kept = kept;
+    }
+
+-- a line within its limits is read as it is
+abbrev pub Limited : ℕ → Line → Type 0
+Limited letter line = limitedOf letter line ≡ line
+
 -- a letter's line: a letter that is not covered has an undeclared one
-abbrev pub lineAt : Book → ℕ → Line
-lineAt book letter = if covered letter then getD (book .lines) (placeOf letter) noLine else noLine
+unfoldable pub lineAt : List ℕ → ℕ → Line
+lineAt store letter = if covered letter then limitedOf letter (lineIn (piece store (lineStart letter) 6)) else noLine
 
--- "the last closing, or the declared opening": what lies past its limit is read as the limit
-abbrev pub declaredOpening : Line → ℕ
-declaredOpening line = min (line .opening) 100000000000
-
-abbrev pub lastClosing : Line → ℕ
-lastClosing line = min (line .closing) 110000000000
-
--- the book with a line anew: as it was, where the letter is not covered
-abbrev pub withLineOf : Book → ℕ → Line → Book
-withLineOf book letter line =
-    record { rates = book .rates; lines = if covered letter then set (book .lines) (placeOf letter) line else book .lines; accepted = book .accepted; refused = book .refused }
+-- the store with a line anew: as it was, where the letter is not covered
+abbrev pub withLineOf : List ℕ → ℕ → Line → List ℕ
+withLineOf store letter line = if covered letter then written store (lineStart letter) (cellsOf line) else store
 
 -- the line that LINE declares
 abbrev pub newLine : ℕ → Line
 newLine opening = record { declared = true; opening = opening; closed = 0; closing = 0; last = 0; kept = 0 }
+
+-- a line with one pattern more: "A line keeps its latest ten patterns (two-year: two)."
+abbrev pub withPatternOf : ℕ → Line → ℕ → Line
+withPatternOf letter line year =
+    record { declared = line .declared; opening = line .opening; closed = line .closed; closing = line .closing; last = year; kept = min (line .kept + 1) (ages letter) }
 
 -- a line with one more year closed
 abbrev pub withClosingOf : Line → ℕ → ℕ → Line

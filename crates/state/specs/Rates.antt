@@ -27,4 +27,4 @@ yearRate Missing = none
 -- the book with a year's rate: as it was, where the year has no place
 abbrev pub withRateOf : Book → ℕ → ℕ → Book
 withRateOf book year rate =
-    record { rates = if isYear year then set (book .rates) (year - 1987) rate else book .rates; lines = book .lines; accepted = book .accepted; refused = book .refused }
+    record { rates = if isYear year then set (book .rates) (year - 1987) rate else book .rates; accepted = book .accepted; refused = book .refused }

@@ -1,37 +1,36 @@
--- The model's book that the code's book and the lent list of patterns are. The view is total: every cell is read through its limits.
+-- The model's book that the code's book and the lent store are. The view is total: every cell is read through its limits, so that every store is some book's.
 -- Assumes nothing: these are definitions.
-use mathlib.Core.List.{List, []}
-use mathlib.Core.Path.{_≡_}
+use mathlib.Core.List.{List}
 use mathlib.Core.Option.{none, some}
 use Prim.Native.Nat.{ℕ}
-use lib.ListN.{getD}
+use lib.ListN.{replicate}
 use Rattle.model.specs.Basics.{if_then_else_}
 use Rattle.model.specs.Kind.{isYear}
-use Rattle.model.specs.Letter.{covered}
 use Rattle.model.specs.Book as model
 use Rattle.state.specs.declared.book.Book.{Book}
-use Rattle.state.specs.declared.book.Line.{Line}
+use Rattle.state.specs.declared.lines.Line.{Line}
+use Rattle.state.specs.Store.{size}
 use Rattle.state.specs.Rates.{ratesOf}
-use Rattle.state.specs.Lines.{placeOf, noLine, declaredOpening, lastClosing}
-use Rattle.state.specs.Patterns.{keptCount, keptBack}
+use Rattle.state.specs.Lines.{lineAt}
+use Rattle.state.specs.Patterns.{keptBack}
 
 unfoldable pub lineOf : List ℕ → ℕ → Line → model.Line
-lineOf slots letter line =
+lineOf store letter line =
     record {
-      opening = if line .declared then some (declaredOpening line) else none;
-      closed = if isYear (line .closed) then some (record { year = line .closed; closing = lastClosing line }) else none;
-      kept = keptBack slots letter (keptCount letter line) (line .last);
+      opening = if line .declared then some (line .opening) else none;
+      closed = if isYear (line .closed) then some (record { year = line .closed; closing = line .closing }) else none;
+      kept = keptBack store letter (line .kept) (line .last);
     }
 
--- a letter that is not covered has no line
-unfoldable pub linesOf : List Line → List ℕ → ℕ → model.Line
-linesOf lines slots letter =
-    if covered letter then lineOf slots letter (getD lines (placeOf letter) noLine) else record { opening = none; closed = none; kept = [] }
+unfoldable pub linesOf : List ℕ → ℕ → model.Line
+linesOf store letter = lineOf store letter (lineAt store letter)
 
 abbrev pub view : Book → List ℕ → model.Book
-view book slots =
-    record { rates = ratesOf (book .rates); lines = linesOf (book .lines) slots; accepted = book .accepted; refused = book .refused }
+view book store = record { rates = ratesOf (book .rates); lines = linesOf store; accepted = book .accepted; refused = book .refused }
 
--- an empty book, whatever the lent list holds
-abbrev pub IsEmpty : Book → Type 0
-IsEmpty book = (slots : List ℕ) → view book slots ≡ model.empty
+-- "An empty book has no line, rate, pattern or closing, and both counts are 0.": no number of a rate place is a rate, and all cells are 0
+abbrev pub emptyBook : Book
+emptyBook = record { rates = replicate 113 65535; accepted = 0; refused = 0 }
+
+abbrev pub emptyStore : List ℕ
+emptyStore = replicate size 0

@@ -1,6 +1,9 @@
-// What the book holds, and how a cell of it is read and written. The model's book that it is stands in specs/View.antt.
+// What the book holds: its rates and counts by value, and everything else in the store that the caller lends. The model's book that they are stands in specs/View.antt.
 pub mod book;
 mod cells;
+pub mod hints;
+mod limits;
 pub mod lines;
 pub mod patterns;
 pub mod rates;
+pub mod store;

@@ -1,18 +1,40 @@
-// The lines of the covered letters.
-use crate::book::Book;
-use crate::book::Line;
-use crate::cells::place_of;
+// The lines of the covered letters, in the store.
+use crate::cells::line_start;
+use crate::cells::write;
+use crate::limits::limited;
+use crate::store::Store;
 use letters::letter::is_covered;
 ghost use mathlib.Core.Path.{_≡_};
-ghost use Rattle.state.specs.Lines.{lineAt, withLineOf};
+ghost use lib.ListN.{length};
+ghost use Rattle.state.specs.Store.{size};
+ghost use Rattle.state.specs.Lines.{lineAt, cellsOf, withLineOf};
+
+// A line. `closed` is its last closed year, or 0 where it has none, and `closing` that year's closing. `last` is the accident year of its last pattern, and `kept` how many patterns are kept, of that year and the years before.
+pub struct Line {
+    pub declared: bool,
+    pub opening: u64,
+    pub closed: u64,
+    pub closing: u64,
+    pub last: u64,
+    pub kept: u64,
+}
 
 // A letter's line. A letter that is not covered has an undeclared one.
-pub fn line_of(book: Book, letter: u8) -> Line
-    ensures { λ r. ⌜ r ≡ lineAt book letter ⌝ }
+pub fn line_of(store: &Store, letter: u8) -> Line
+    ensures { λ r. ⌜ r ≡ lineAt (now (store .entry)) letter ⌝ }
 {
     if is_covered(letter) {
-        let place = place_of(letter);
-        return book.lines[place];
+        let at = line_start(letter);
+        let mark = store[at];
+        let line = Line {
+            declared: mark > 0,
+            opening: store[at + 1],
+            closed: store[at + 2],
+            closing: store[at + 3],
+            last: store[at + 4],
+            kept: store[at + 5],
+        };
+        return limited(letter, line);
     }
     Line {
         declared: false,
@@ -24,15 +46,44 @@ pub fn line_of(book: Book, letter: u8) -> Line
     }
 }
 
-// The book with a line anew: as it was, where the letter is not covered.
-pub fn with_line(book: Book, letter: u8, line: Line) -> Book
-    ensures { λ r. ⌜ r ≡ withLineOf book letter line ⌝ }
+// The store with a line anew: as it was, where the letter is not covered.
+pub fn keep_line(store: &mut Store, letter: u8, line: Line)
+    ensures { λ _. ⌜ (length (now (store .entry)) ≡ size) × (now (store .exit) ≡ withLineOf (now (store .entry)) letter line) ⌝ }
+{
+    write_line(store, letter, line);
+}
+
+fn write_line(store: &mut [u64], letter: u8, line: Line)
+    requires { ⌜ length (now store) ≡ size ⌝ }
+    ensures { λ _. ⌜ now (store .exit) ≡ withLineOf (now (store .entry)) letter line ⌝ }
 {
     if is_covered(letter) {
-        let mut later = book;
-        let place = place_of(letter);
-        later.lines[place] = line;
-        return later;
+        let cells = cells_of(line);
+        write(store, line_start(letter), &cells);
+        return;
     }
-    book
+}
+
+// The cells of a line.
+fn cells_of(line: Line) -> [u64; 6]
+    ensures { λ r. ⌜ r ≡ cellsOf line ⌝ }
+{
+    if line.declared {
+        return [
+            1,
+            line.opening,
+            line.closed,
+            line.closing,
+            line.last,
+            line.kept,
+        ];
+    }
+    [
+        0,
+        line.opening,
+        line.closed,
+        line.closing,
+        line.last,
+        line.kept,
+    ]
 }

@@ -4,17 +4,14 @@ use Rattle.answer.proofs.Numbers.{opposite-fits, opposite-casts, one-mo
 use Rattle.answer.proofs.put.put_signed.Statement.{statement}
 use Rattle.answer.proofs.put.put_signed.Tie as tie
 
-sub-digits : tie.Need-sub-digits
-sub-digits c = search opposite-fits
+sub-size : tie.Need-sub-size
+sub-size c = search opposite-fits
 
-cast-digits : tie.Need-cast-digits
-cast-digits c = opposite-casts _ (c .before .before .fits .v) (c .if1 .taken)
+cast-size : tie.Need-cast-size
+cast-size c = opposite-casts _ (c .before .before .fits .v) (c .if1 .taken)
 
-add-digits : tie.Need-add-digits
-add-digits c = search one-more-fits
-
-digits-requires : tie.Need-digits-requires
-digits-requires c κs = search needs
+add-size : tie.Need-add-size
+add-size c = search one-more-fits
 
 slice-aggregate-put : tie.Need-slice-aggregate-put
 slice-aggregate-put c = search needs
@@ -22,17 +19,8 @@ slice-aggregate-put c = search needs
 put-requires : tie.Need-put-requires
 put-requires c κs = search needs
 
-sub-put : tie.Need-sub-put
-sub-put c = search needs
-
-part-put-start : tie.Need-part-put-start
-part-put-start c = search needs
-
-part-put-end : tie.Need-part-put-end
-part-put-end c = search needs
-
-put-requires-2 : tie.Need-put-requires-2
-put-requires-2 c κs = search needs
+put-digits-requires : tie.Need-put-digits-requires
+put-digits-requires c κs = search needs
 
 same-length : tie.Need-same-length
 same-length c = search needs
@@ -56,16 +44,12 @@ pub put-signed-spec : {M : Type 1} → statement M
 put-signed-spec =
     tie.close
     (tie.spec
-    sub-digits
-    cast-digits
-    add-digits
-    digits-requires
+    sub-size
+    cast-size
+    add-size
     slice-aggregate-put
     put-requires
-    sub-put
-    part-put-start
-    part-put-end
-    put-requires-2
+    put-digits-requires
     same-length
     returns
     cast-put-number

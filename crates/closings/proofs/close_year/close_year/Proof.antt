@@ -19,13 +19,13 @@ has-limits-requires c κs = search needs
 
 ask-declared-requires : tie.Need-ask-declared-requires
 ask-declared-requires c κs =
-    let limited = c .before in
+    let limited = c .before .before in
     let dated = limited .before .before in
     let counted = dated .before .before in
     let lettered = counted .before .before in
     let given = lettered .before .before .before .args in
     year-sound (given .letter) (given .year) (given .paid .now) (given .unpaid .now) (given .tabular .now) _ (lettered .is-covered .ensures) (counted .before .if1 .taken)
-    _ (counted .has-lengths .ensures) (dated .before .if2 .taken) _ (dated .is-year .ensures) (limited .before .if3 .taken) _ (limited .has-limits .ensures) (c .if4 .taken)
+    _ (counted .has-lengths .ensures) (dated .before .if2 .taken) _ (dated .is-year .ensures) (limited .before .if3 .taken) _ (limited .has-limits .ensures) (c .before .if4 .taken)
 
 returns : tie.Need-returns
 returns c = search year-on

@@ -1,17 +1,14 @@
 -- `closings::close_year::end_year` meets its contract. Assumes nothing.
-use mathlib.Core.Path.{_≡_}
-use lib.ListN.{length}
 use borrow.Author.Needs.{needs}
 use mir.Syntax.{w64}
 use mir.Val.{toZ, ofZ}
 use mir.Facts.{toZ-ofZ}
-use Rattle.state.proofs.Views.{length-mapped}
-use Rattle.closings.proofs.YearClosed.{keeps, year-closed}
+use Rattle.closings.proofs.YearClosed.{dated, year-closed}
 use Rattle.closings.proofs.close_year.end_year.Statement.{statement}
 use Rattle.closings.proofs.close_year.end_year.Tie as tie
 
 row-factors-requires : tie.Need-row-factors-requires
-row-factors-requires c κs = search keeps
+row-factors-requires c κs = search dated
 
 opening-of-requires : tie.Need-opening-of-requires
 opening-of-requires c κs = search needs
@@ -22,24 +19,23 @@ year-end-requires c κs = search needs
 with-closing-requires : tie.Need-with-closing-requires
 with-closing-requires c κs = search needs
 
-with-line-requires : tie.Need-with-line-requires
-with-line-requires c κs = search needs
+keep-line-requires : tie.Need-keep-line-requires
+keep-line-requires c κs = search needs
 
 accept-requires : tie.Need-accept-requires
 accept-requires c κs = search needs
 
 returns : tie.Need-returns
 returns c =
-    let start = c .before .before .before .before .before .before .before .before .before .before in
-    let n : length (start .args .book .lines) ≡ 15 = search (length-mapped, start .good .0) in
     let line = c .before .before in
     let closed = line .before in
-    let end = closed .before in
+    let end = closed .before .before in
     let opened = end .before .before in
     let factors = opened .before in
+    let start = factors .before .before .before .before in
     let given = start .args in
-    year-closed (given .book) (given .line) (given .letter) (given .year) (given .paid .now) (given .unpaid .now) (given .tabular .now) (start .pre) (given .patterns .now) _ (factors .row-factors .ensures)
-    n _ (opened .opening-of .ensures) _ (end .year-end .ensures) _ (closed .with-closing .ensures) _ (line .with-line .ensures)
+    year-closed (given .store .now) (given .line) (given .letter) (given .year) (given .paid .now) (given .unpaid .now) (given .tabular .now) (start .pre) _ (factors .row-factors .ensures)
+    (given .book) (line .keep-line .ensures .0) _ (opened .opening-of .ensures) _ (end .year-end .ensures) _ (closed .with-closing .ensures) _ (line .keep-line .ensures .1)
     (toZ w64 (ofZ w64 (end .year-end .result .paid))) (search (toZ-ofZ, end .year-end .ok .1)) (toZ w64 (ofZ w64 (end .year-end .result .loss))) (search (toZ-ofZ, end .year-end .ok .1 .1 .1)) _ (c .accept .ensures)
 
 pub end-year-spec : {M : Type 1} → statement M
@@ -50,6 +46,6 @@ end-year-spec =
     opening-of-requires
     year-end-requires
     with-closing-requires
-    with-line-requires
+    keep-line-requires
     accept-requires
     returns)

@@ -4,9 +4,6 @@ use Rattle.closings.proofs.Turns.{nothing-due, not-last, due-closed, du
 use Rattle.closings.proofs.close_year.is_due.Statement.{statement}
 use Rattle.closings.proofs.close_year.is_due.Tie as tie
 
-kept-count-requires : tie.Need-kept-count-requires
-kept-count-requires c κs = search needs
-
 returns : tie.Need-returns
 returns c = search nothing-due
 
@@ -24,4 +21,4 @@ returns-4 c = search not-last
 
 pub is-due-spec : {M : Type 1} → statement M
 is-due-spec =
-    tie.close (tie.spec kept-count-requires returns is-year-requires returns-2 returns-3 returns-4)
+    tie.close (tie.spec returns is-year-requires returns-2 returns-3 returns-4)

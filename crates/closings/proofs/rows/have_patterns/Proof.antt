@@ -15,9 +15,6 @@ abbrev μ-loop : tie.MeasureT-loop
 ages-requires : tie.Need-ages-requires Inv-loop μ-loop
 ages-requires c κs = search needs
 
-kept-count-requires : tie.Need-kept-count-requires Inv-loop μ-loop
-kept-count-requires c κs = search needs
-
 loop-holds : tie.Need-loop-holds Inv-loop μ-loop
 loop-holds c = search ask-start
 
@@ -58,7 +55,6 @@ have-patterns-spec =
     Inv-loop
     μ-loop
     ages-requires
-    kept-count-requires
     loop-holds
     mul-has-gross
     shared-slice-read-has-gross

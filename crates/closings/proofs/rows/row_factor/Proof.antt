@@ -1,19 +1,15 @@
 -- `closings::rows::row_factor` meets its contract. Assumes nothing.
-use native.Mathlib.Omega.{arith}
 use borrow.Author.Needs.{needs}
+use Rattle.model.proofs.Ages.{ages-small}
 use Rattle.closings.proofs.RowLoops.{factor-kept, factor-missing, factor-prior}
-use Rattle.state.proofs.KeptYears.{kept-year}
 use Rattle.closings.proofs.rows.row_factor.Statement.{statement}
 use Rattle.closings.proofs.rows.row_factor.Tie as tie
-
-kept-count-requires : tie.Need-kept-count-requires
-kept-count-requires c κs = search needs
 
 ages-requires : tie.Need-ages-requires
 ages-requires c κs = search needs
 
 sub-factor-in : tie.Need-sub-factor-in
-sub-factor-in c = let args = c .before .before .before .before .args in omega (arith, kept-year (args .letter) (args .line) (c .before .before .before .before .pre))
+sub-factor-in c = let few = ages-small (c .before .before .before .args .letter) in search needs
 
 factor-in-requires : tie.Need-factor-in-requires
 factor-in-requires c κs = search needs
@@ -34,7 +30,6 @@ pub row-factor-spec : {M : Type 1} → statement M
 row-factor-spec =
     tie.close
     (tie.spec
-    kept-count-requires
     ages-requires
     sub-factor-in
     factor-in-requires

@@ -6,10 +6,10 @@ use Rattle.console.proofs.standard.run.Statement.{statement}
 use Rattle.console.proofs.standard.run.Tie as tie
 
 abbrev Inv-loop : tie.InvT-loop
-Inv-loop patterns₀ so-far₀ piece₀ out₀ turns₀ patterns so-far piece out turns = Led so-far patterns
+Inv-loop store₀ so-far₀ piece₀ out₀ turns₀ store so-far piece out turns = Led so-far store
 
 abbrev μ-loop : tie.MeasureT-loop
-μ-loop patterns₀ so-far₀ piece₀ out₀ turns₀ patterns so-far piece out turns = turns
+μ-loop store₀ so-far₀ piece₀ out₀ turns₀ store so-far piece out turns = turns
 
 start-requires : tie.Need-start-requires Inv-loop μ-loop
 start-requires c κs = search needs

@@ -1,6 +1,6 @@
 -- `journal::apply::apply` meets its contract. Assumes nothing.
 use borrow.Author.Needs.{needs}
-use Rattle.journal.proofs.LineRead.{refuses, declares, sets-rate, adds-pattern, closes-year}
+use Rattle.journal.proofs.LineRead.{months-in, closes-low, refuses, declares, sets-rate, adds-pattern, closes-year}
 use Rattle.journal.proofs.apply.apply.Statement.{statement}
 use Rattle.journal.proofs.apply.apply.Tie as tie
 
@@ -16,14 +16,26 @@ refuse-requires c κs = search needs
 enum-told : tie.Need-enum-told
 enum-told c = search needs
 
+array-read-declare : tie.Need-array-read-declare
+array-read-declare c = search needs
+
 declare-requires : tie.Need-declare-requires
 declare-requires c κs = search needs
 
 enum-told-2 : tie.Need-enum-told-2
 enum-told-2 c = search needs
 
-slice-aggregate-set-rate : tie.Need-slice-aggregate-set-rate
-slice-aggregate-set-rate c = search needs
+array-read-set-rate : tie.Need-array-read-set-rate
+array-read-set-rate c = search needs
+
+sub-set-rate : tie.Need-sub-set-rate
+sub-set-rate c = search needs
+
+part-set-rate-start : tie.Need-part-set-rate-start
+part-set-rate-start c = search needs
+
+part-set-rate-end : tie.Need-part-set-rate-end
+part-set-rate-end c = search months-in
 
 set-rate-requires : tie.Need-set-rate-requires
 set-rate-requires c κs = search needs
@@ -38,7 +50,7 @@ enum-told-4 : tie.Need-enum-told-4
 enum-told-4 c = search needs
 
 apply-year-requires : tie.Need-apply-year-requires
-apply-year-requires c κs = search needs
+apply-year-requires c κs = search closes-low
 
 returns : tie.Need-returns
 returns c = search refuses
@@ -63,9 +75,13 @@ apply-spec =
     enum-known-asked
     refuse-requires
     enum-told
+    array-read-declare
     declare-requires
     enum-told-2
-    slice-aggregate-set-rate
+    array-read-set-rate
+    sub-set-rate
+    part-set-rate-start
+    part-set-rate-end
     set-rate-requires
     enum-told-3
     apply-pattern-requires

@@ -1,9 +1,6 @@
 -- `ledger::declare::ask_given` meets its contract. Assumes nothing.
-use mathlib.Core.Path.{_≡_}
-use lib.ListN.{length}
-use borrow.Author.Needs.{needs}
-use Rattle.state.proofs.Views.{length-mapped}
 use Rattle.ledger.proofs.Declared.{given-refused, declared}
+use borrow.Author.Needs.{needs}
 use Rattle.ledger.proofs.declare.ask_given.Statement.{statement}
 use Rattle.ledger.proofs.declare.ask_given.Tie as tie
 
@@ -16,17 +13,14 @@ refuse-requires c κs = search needs
 returns : tie.Need-returns
 returns c = search given-refused
 
-with-line-requires : tie.Need-with-line-requires
-with-line-requires c κs = search needs
+keep-line-requires : tie.Need-keep-line-requires
+keep-line-requires c κs = search needs
 
 accept-requires : tie.Need-accept-requires
 accept-requires c κs = search needs
 
 returns-2 : tie.Need-returns-2
-returns-2 c =
-    let given = c .before .before .before .before .args in
-    let n : length (given .book .lines) ≡ 15 = search length-mapped in
-    search declared
+returns-2 c = search declared
 
 pub ask-given-spec : {M : Type 1} → statement M
 ask-given-spec =
@@ -35,6 +29,6 @@ ask-given-spec =
     line-of-requires
     refuse-requires
     returns
-    with-line-requires
+    keep-line-requires
     accept-requires
     returns-2)

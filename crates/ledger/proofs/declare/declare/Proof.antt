@@ -1,6 +1,6 @@
 -- `ledger::declare::declare` meets its contract. Assumes nothing.
 use borrow.Author.Needs.{needs}
-use Rattle.ledger.proofs.Settling.{goes-on-anyhow, letter-refused}
+use Rattle.ledger.proofs.Settling.{goes-on, letter-refused}
 use Rattle.ledger.proofs.Declared.{opening-sound, opening-refused}
 use Rattle.ledger.proofs.declare.declare.Statement.{statement}
 use Rattle.ledger.proofs.declare.declare.Tie as tie
@@ -15,7 +15,7 @@ ask-given-requires : tie.Need-ask-given-requires
 ask-given-requires c κs = search opening-sound
 
 returns : tie.Need-returns
-returns c = search (goes-on-anyhow, opening-sound)
+returns c = search (goes-on, opening-sound)
 
 refuse-requires : tie.Need-refuse-requires
 refuse-requires c κs = search needs

@@ -1,6 +1,6 @@
 -- `ledger::set_rate::ask_given` meets its contract. Assumes nothing.
-use borrow.Author.Needs.{needs}
 use Rattle.ledger.proofs.RateSet.{rate-given, rate-set}
+use borrow.Author.Needs.{needs}
 use Rattle.ledger.proofs.set_rate.ask_given.Statement.{statement}
 use Rattle.ledger.proofs.set_rate.ask_given.Tie as tie
 
@@ -15,6 +15,12 @@ refuse-requires c κs = search needs
 
 enum-told-2 : tie.Need-enum-told-2
 enum-told-2 c = search needs
+
+half-year-requires : tie.Need-half-year-requires
+half-year-requires c κs = search needs
+
+keep-hint-requires : tie.Need-keep-hint-requires
+keep-hint-requires c κs = search needs
 
 with-rate-requires : tie.Need-with-rate-requires
 with-rate-requires c κs = search needs
@@ -39,6 +45,8 @@ ask-given-spec =
     enum-told
     refuse-requires
     enum-told-2
+    half-year-requires
+    keep-hint-requires
     with-rate-requires
     number-requires
     accept-requires

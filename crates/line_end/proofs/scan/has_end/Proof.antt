@@ -1,5 +1,6 @@
 -- `line_end::scan::has_end` meets its contract. Assumes nothing.
 use Prim.Native.Nat.{_-_}
+use mathlib.Core.Path.{refl}
 use native.Mathlib.Omega.{arith}
 use Rattle.line_end.proofs.Blocks.{Looking, look-start, look-on, looked}
 use Rattle.line_end.proofs.scan.has_end.Statement.{statement}
@@ -24,7 +25,7 @@ loop-less : tie.Need-loop-less Inv-loop μ-loop
 loop-less c = omega arith
 
 loop-again : tie.Need-loop-again Inv-loop μ-loop
-loop-again c = search look-on
+loop-again c = look-on _ _ _ (c .before .before .loop .inv) (omega arith) _ refl
 
 returns : tie.Need-returns Inv-loop μ-loop
 returns c = search looked

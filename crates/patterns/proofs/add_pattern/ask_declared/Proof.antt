@@ -1,6 +1,6 @@
 -- `patterns::add_pattern::ask_declared` meets its contract. Assumes nothing.
 use borrow.Author.Needs.{needs}
-use Rattle.patterns.proofs.PatternAsked.{undeclared, unrated, out-of-turn, turned}
+use Rattle.patterns.proofs.PatternAsked.{dated, undeclared, unrated, out-of-turn, turned}
 use Rattle.patterns.proofs.add_pattern.ask_declared.Statement.{statement}
 use Rattle.patterns.proofs.add_pattern.ask_declared.Tie as tie
 
@@ -23,7 +23,7 @@ returns : tie.Need-returns
 returns c = search unrated
 
 follows-last-requires : tie.Need-follows-last-requires
-follows-last-requires c κs = search needs
+follows-last-requires c κs = search dated
 
 ask-ratios-requires : tie.Need-ask-ratios-requires
 ask-ratios-requires c κs = search turned

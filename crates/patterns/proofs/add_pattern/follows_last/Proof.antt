@@ -4,9 +4,6 @@ use Rattle.patterns.proofs.Turns.{next-year-fits, first-follows, not-ne
 use Rattle.patterns.proofs.add_pattern.follows_last.Statement.{statement}
 use Rattle.patterns.proofs.add_pattern.follows_last.Tie as tie
 
-kept-count-requires : tie.Need-kept-count-requires
-kept-count-requires c κs = search needs
-
 returns : tie.Need-returns
 returns c = search first-follows
 
@@ -28,4 +25,4 @@ returns-4 c = search not-next
 pub follows-last-spec : {M : Type 1} → statement M
 follows-last-spec =
     tie.close
-    (tie.spec kept-count-requires returns add-if2 is-year-requires returns-2 returns-3 returns-4)
+    (tie.spec returns add-if2 is-year-requires returns-2 returns-3 returns-4)

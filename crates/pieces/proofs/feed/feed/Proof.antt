@@ -2,9 +2,8 @@
 use mathlib.Core.Path.{_≡_}
 use lib.ListN.{length}
 use borrow.Author.Needs.{needs}
-use Rattle.state.proofs.Views.{length-mapped}
 use Rattle.pieces.proofs.FeedEnds.{begun-fits, begun-exact, feeds-room, feeds-full}
-use Rattle.pieces.proofs.Joining.{count-fits, count-exact, begun-short}
+use Rattle.pieces.proofs.Joining.{count-fits, count-exact, begun-short, length-mapped}
 use Rattle.pieces.proofs.feed.feed.Statement.{statement}
 use Rattle.pieces.proofs.feed.feed.Tie as tie
 

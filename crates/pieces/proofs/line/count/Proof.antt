@@ -2,8 +2,7 @@
 use borrow.Author.Needs.{needs}
 use mathlib.Core.Path.{_≡_}
 use lib.ListN.{length}
-use Rattle.state.proofs.Views.{length-mapped}
-use Rattle.pieces.proofs.Joining.{count-is}
+use Rattle.pieces.proofs.Joining.{count-is, length-mapped}
 use Rattle.pieces.proofs.line.count.Statement.{statement}
 use Rattle.pieces.proofs.line.count.Tie as tie
 

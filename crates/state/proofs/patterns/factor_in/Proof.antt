@@ -1,7 +1,7 @@
 -- `state::patterns::factor_in` meets its contract. Assumes nothing.
-use borrow.Author.Needs.{needs}
 use mathlib.Core.Path.{sym, _∙_}
-use Rattle.state.proofs.Writes.{slot-read, no-slot, past-slot}
+use Rattle.state.proofs.SlotPieces.{slot-read, no-slot, past-slot}
+use borrow.Author.Needs.{needs}
 use Rattle.state.proofs.patterns.factor_in.Statement.{statement}
 use Rattle.state.proofs.patterns.factor_in.Tie as tie
 
@@ -11,11 +11,8 @@ returns c = search past-slot
 is-covered-requires : tie.Need-is-covered-requires
 is-covered-requires c κs = search needs
 
-slot-of-requires : tie.Need-slot-of-requires
-slot-of-requires c κs = sym (c .before .is-covered .ensures) ∙ c .if2 .taken
-
-mul-at : tie.Need-mul-at
-mul-at c = search needs
+slot-start-requires : tie.Need-slot-start-requires
+slot-start-requires c κs = sym (c .before .is-covered .ensures) ∙ c .if2 .taken
 
 add-at : tie.Need-add-at
 add-at c = search needs
@@ -23,8 +20,8 @@ add-at c = search needs
 mul-factor-of : tie.Need-mul-factor-of
 mul-factor-of c = search needs
 
-shared-slice-read-factor-of : tie.Need-shared-slice-read-factor-of
-shared-slice-read-factor-of c = search needs
+element-copy-out-factor-of : tie.Need-element-copy-out-factor-of
+element-copy-out-factor-of c = search needs
 
 factor-of-requires : tie.Need-factor-of-requires
 factor-of-requires c κs = search needs
@@ -41,11 +38,10 @@ factor-in-spec =
     (tie.spec
     returns
     is-covered-requires
-    slot-of-requires
-    mul-at
+    slot-start-requires
     add-at
     mul-factor-of
-    shared-slice-read-factor-of
+    element-copy-out-factor-of
     factor-of-requires
     returns-2
     returns-3)
