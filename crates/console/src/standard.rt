@@ -9,12 +9,13 @@ use pieces::feed::close;
 use pieces::feed::done;
 use pieces::feed::feed;
 use pieces::feed::start;
+use state::store::CELLS;
 use state::store::Store;
 ghost use Rattle.io.specs.Counts.{Counts};
 ghost use Rattle.console.specs.Take.{TakesPiece, TakesPart, Led};
 
 pub fn run() {
-    let mut store = [0u64; 1853];
+    let mut store = [0u64; CELLS];
     let mut so_far = start(&mut store);
     let mut piece = io::large_buffer();
     let mut out = io::large_buffer();

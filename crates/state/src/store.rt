@@ -11,4 +11,6 @@ pub const LINE_CELLS: usize = 6;
 pub const SLOT_CELLS: usize = 11;
 
 // Fifteen lines, ten slots for each, and the years from 1987 to 2099.
-pub type Store = [u64; 1853];
+pub const CELLS: usize = 1853;
+
+pub type Store = [u64; CELLS];
