@@ -107,6 +107,7 @@ module _ (run : Run) (store out : List ℕ) (last : Answered) (laterStore laterO
         same = text-put doneOut _ lastOut put (d .puts) ∙ rw (accepted, refused) (ap (λ (b : Book). doneText (b .accepted) (b .refused)) (c .reached .later));
       }
 
--- What the bytes of all pieces are answered, the answer to the last line and DONE are together the model's run of the input. (The answers to the parts, one after the other, are those to all of them: `texts-join` of pieces.)
+-- The answers to all pieces, the answer to the last line and DONE are together the model's run of the input.
+-- (The answers to the parts, one after the other, are those to all of them: `texts-join` of pieces.)
 pub handed-is : (run : Run) (store : List ℕ) (l : Led run store) → (textOf (l .begun) (l .first) (l .input) ++ lastAnswer run store) ++ lastCounts run store ≡ model.run (l .input)
 handed-is run store l = all-written (l .begun) (l .first) (l .input) _ run store (l .starts) (l .leads)

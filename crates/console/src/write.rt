@@ -1,4 +1,5 @@
-// The program's texts, to standard output. No contract can say what is written, so each function asks that what it is handed is right. (The run, the store before it and the bytes are there for the contracts alone.)
+// The program's texts, to standard output. No contract can say what is written, so each function asks that what it is handed is right.
+// (The run, the store before it and the bytes are there for the contracts alone.)
 use libc::STDOUT_FILENO;
 use pieces::feed::Run;
 use state::store::Store;

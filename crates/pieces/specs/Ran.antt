@@ -1,4 +1,5 @@
--- A whole run of the code: `start`, any number of `feed`s, `close` and `done`, each with what it promises, whatever the pieces are and however much of each was taken. proofs/Ran.antt shows that every such run is the model's.
+-- A whole run of the code: `start`, any number of `feed`s, `close` and `done`, each with what it promises.
+-- The pieces may be any, and any part of each may be taken. proofs/Ran.antt shows that every such run is the model's.
 -- Assumes nothing: these are definitions.
 use mathlib.Core.List.{List, [], _++_}
 use mathlib.Core.Path.{_≡_}

@@ -9,13 +9,16 @@ ghost use lib.ListN.{length};
 ghost use Rattle.state.specs.Store.{size};
 ghost use Rattle.state.specs.Lines.{lineAt, cellsOf, withLineOf};
 
-// A line. `closed` is its last closed year, or 0 where it has none, and `closing` that year's closing. `last` is the accident year of its last pattern, and `kept` how many patterns are kept, of that year and the years before.
 pub struct Line {
     pub declared: bool,
     pub opening: u64,
+    // The last closed year, or 0 where there is none.
     pub closed: u64,
+    // The closing of that year.
     pub closing: u64,
+    // The accident year of the last pattern.
     pub last: u64,
+    // How many patterns are kept: of that year and the years before it.
     pub kept: u64,
 }
 

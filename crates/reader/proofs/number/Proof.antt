@@ -1,5 +1,7 @@
--- `reader::number` meets its contract: a walk of its MIR, by hand. The struct is taken apart, and `number_from` is called on the slice and the number. All that the proof knows of `number_from` is that it meets its contract.
--- The struct is Copy: what it owns is had twice, one copy is kept whole for the exit, and of the other what line owns goes to the callee, beside the lifetime's token, which comes back. The facts of at and of allowed are made anew.
+-- `reader::number` meets its contract: a walk of its MIR, by hand.
+-- The struct is taken apart, and `number_from` is called on the slice and the number. All that the proof knows of `number_from` is that it meets its contract.
+-- The struct is Copy, so what it owns is had twice. One copy is kept whole for the exit. Of the other, what line owns goes to the callee.
+-- The lifetime's token goes with it and comes back. The facts of at and of allowed are made anew.
 -- Assumes nothing.
 use mathlib.Core.Bool.{Bool}
 use mathlib.Core.Path.{_≡_, refl}

@@ -1,5 +1,6 @@
--- `reader::read_number` meets its contract: a walk of its MIR, by hand. The `Reader` that `begin` returns is held in a local and passed to `number`. All that the proof knows of the two is that each meets its contract.
--- The machine value that `begin` returns is stored and passed on as it is. In a local of a body MIR erases the lifetime of the struct's type, so the value is shown to have the type at `erased`: what the struct owns does not say the lifetime's name.
+-- `reader::read_number` meets its contract: a walk of its MIR, by hand.
+-- The `Reader` that `begin` returns is held in a local and passed to `number` as it is. All that the proof knows of the two is that each meets its contract.
+-- MIR erases the lifetime in the type of a local. So the value is shown to have the type at `erased`: what the struct owns does not name the lifetime.
 -- Assumes nothing.
 use mathlib.Core.Bool.{Bool}
 use mathlib.Core.Path.{_≡_, refl}
