@@ -1,9 +1,13 @@
 //! The documents say what is in the tree: every path, theorem, definition,
 //! must-fail edit, function, test and line of a stored run that they name is
-//! there. The forms are those of CHECKLIST's first paragraph.
+//! there, and so is what a link leads to. The forms are those of CHECKLIST's
+//! first paragraph.
 
 mod citations;
+mod comments;
+mod counts;
 mod functions;
+mod links;
 mod stored_lines;
 mod text;
 mod tree;
@@ -11,12 +15,15 @@ mod tree;
 use text::Line;
 
 /// The documents that are held to the tree.
-const DOCUMENTS: [&str; 6] = [
+const DOCUMENTS: [&str; 9] = [
     "README.md",
+    "CONTRIBUTING.md",
     "docs/ARCHITECTURE.md",
     "docs/CHECKLIST.md",
     "docs/DECISIONS.md",
+    "docs/MANUAL.md",
     "docs/SPEED.md",
+    "docs/TRUST.md",
     "docs/WHY.md",
 ];
 
@@ -58,6 +65,17 @@ fn every_listed_function_is_public_and_has_two_edits() {
 }
 
 #[test]
+fn every_count_is_that_of_the_tree() {
+    assert_right(counts::rows);
+}
+
+#[test]
+fn every_link_leads_to_a_file_and_a_heading() {
+    let faults = links::faults();
+    assert!(faults.is_empty(), "\n{}\n", faults.join("\n"));
+}
+
+#[test]
 fn every_public_function_is_listed() {
     let missing = functions::missing(&text::lines("docs/CHECKLIST.md"));
     let wrong = missing.join("\n");
@@ -65,6 +83,12 @@ fn every_public_function_is_listed() {
         wrong.is_empty(),
         "docs/CHECKLIST.md does not list\n{wrong}\n"
     );
+}
+
+#[test]
+fn no_comment_is_long() {
+    let long = comments::long();
+    assert!(long.is_empty(), "\n{}\n", long.join("\n"));
 }
 
 /// The first line of an edit says what the wrong program does.
