@@ -156,3 +156,59 @@ fn exhibit_11_prints_our_payments() {
     ];
     assert_eq!(payments(&pattern(&book, b"H"), 16), printed);
 }
+
+/// They are exhibit 11 with more paid for 2002, age 8.
+#[test]
+fn exhibits_12_and_13_have_a_ratio_that_falls() {
+    for paid in ["68000", "69000"] {
+        let rows = exhibits::EXHIBIT_11.replace("60000 70000", &format!("{paid} 70000"));
+        assert_ne!(rows, exhibits::EXHIBIT_11);
+        assert_eq!(run_exhibit('H', 2011, 700, &rows).1, "NO 12");
+    }
+}
+
+const TEXT: &str = include_str!("../../examples/exhibits.md");
+
+/// A factor in percent, as an exhibit prints it.
+fn percent(factor: u64) -> String {
+    format!("{}.{:04}%", factor / 10_000, factor % 10_000)
+}
+
+/// The line of an age in a table of `examples/exhibits.md`: an exhibit has a
+/// row for each accident year of its Schedule P, and then for later years.
+fn table_line(schedule: u64, (age, printed, ours): Age) -> String {
+    let row = match age {
+        1..=10 => (schedule + 1 - age as u64).to_string(),
+        _ => format!("AY + {}", age - 1),
+    };
+    let (shown, book) = (percent(printed), percent(ours));
+    match ours - printed {
+        0 => format!("| {age} | {row} | {shown} | {book} | 0 |"),
+        above => format!("| {age} | {row} | {shown} | {book} | +{above} |"),
+    }
+}
+
+/// The table of an exhibit stands in the text.
+fn check_table(ages: &[Age], schedule: u64, kept: &KeptPattern) {
+    let lines = ages.iter().map(|age| table_line(schedule, *age));
+    let composite = percent(published(kept.factors.composite()));
+    let last = format!("| composite | | not printed | {composite} | |");
+    let table: Vec<String> = lines.chain([last]).collect();
+    assert!(TEXT.contains(&table.join("\n")), "{table:#?}");
+}
+
+#[test]
+fn the_tables_of_the_example_are_these() {
+    check_table(&EXHIBIT_9, 2013, &pattern(&exhibit_9().0, b"J"));
+    check_table(&EXHIBIT_10, 2009, &pattern(&exhibit_10().0, b"B"));
+    check_table(&EXHIBIT_11, 2009, &pattern(&exhibit_11().0, b"H"));
+}
+
+/// What source 000 writes beside exhibit 10: the cumulative ratio of 2001, and
+/// two reserves.
+#[test]
+fn two_numbers_in_the_text_of_exhibit_10_are_wrong() {
+    assert_eq!(common::ratio(300_000, 316_000), 94_936_709);
+    assert_eq!(common::discounted(450_000, 0, 803_944), 361_775);
+    assert_eq!(common::discounted(350_000, 0, 816_659), 285_831);
+}

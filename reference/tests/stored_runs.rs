@@ -59,7 +59,7 @@ fn the_book_has_the_run_that_document_01_prints() {
     assert_eq!(stored("book", "stdout"), expected.as_bytes());
 }
 
-/// The factors of docs/DECISIONS.md; the reserves are multiplied by hand.
+/// The factors of examples/exhibits.md; the reserves are multiplied by hand.
 #[test]
 fn exhibits_9_10_and_11_have_their_factors() {
     let ten = "803944 816659 830660 841740 854281 871281 890399 912271 941800 966736";
