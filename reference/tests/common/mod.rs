@@ -78,3 +78,19 @@ pub fn payments(pattern: &Pattern) -> Vec<u64> {
         .map(|age| pattern.payment(age))
         .collect()
 }
+
+/// A number with commas between its thousands.
+pub fn commas(number: impl ToString) -> String {
+    let number = number.to_string();
+    let (mut text, digits) = match number.strip_prefix('-') {
+        Some(digits) => ("-".to_string(), digits),
+        None => (String::new(), number.as_str()),
+    };
+    for (place, digit) in digits.char_indices() {
+        if place > 0 && (digits.len() - place) % 3 == 0 {
+            text.push(',');
+        }
+        text.push(digit);
+    }
+    text
+}
