@@ -75,6 +75,23 @@ fn every_link_leads_to_a_file_and_a_heading() {
     assert!(faults.is_empty(), "\n{}\n", faults.join("\n"));
 }
 
+/// A newcomer first runs the class example, then meets a refusal, then closes a
+/// year.
+#[test]
+fn the_readme_leads_from_the_class_to_a_refusal_to_a_year_end() {
+    let readme = tree::read(&tree::root().join("README.md"));
+    let places = [
+        "examples/class.md",
+        "docs/MANUAL.md#no-11",
+        "examples/year_end.md",
+    ]
+    .map(|target| readme.find(&format!("]({target})")));
+    assert!(
+        places.iter().all(Option::is_some) && places.is_sorted(),
+        "{places:?}"
+    );
+}
+
 #[test]
 fn every_public_function_is_listed() {
     let missing = functions::missing(&text::lines("docs/CHECKLIST.md"));
