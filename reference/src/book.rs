@@ -99,7 +99,7 @@ impl DeclaredLine {
 
     /// The published factor of each row, where a pattern is kept for it: "the
     /// prior row takes the composite of accident year Y".
-    fn published_factors(&self, year: u64, ages: usize) -> Vec<Option<u64>> {
+    pub fn published_factors(&self, year: u64, ages: usize) -> Vec<Option<u64>> {
         let mut factors = Vec::new();
         for age in 1..=ages {
             let kept = self.pattern_of_row(year, age);

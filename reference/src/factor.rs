@@ -68,12 +68,18 @@ pub fn kept_factors(pattern: &Pattern, rate: u64) -> Vec<u64> {
     factors
 }
 
+/// "let g be next factor × 10000 / (10000 + R), rounded down"
+pub fn year_earlier(next_factor: u64, rate: u64) -> u64 {
+    let earlier = u128::from(next_factor) * 10_000 / u128::from(10_000 + rate);
+    u64::try_from(earlier).expect("a factor is at most 1")
+}
+
 /// "Otherwise let g be next factor × 10000 / (10000 + R), rounded down; the
 /// factor is (p × H + V × g) / U, rounded down", with V = U - p.
 fn factor_before(unpaid: u64, payment: u64, next_factor: u64, half_year: u64, rate: u64) -> u64 {
-    let year_earlier = u128::from(next_factor) * 10_000 / u128::from(10_000 + rate);
     let paid_next = u128::from(payment) * u128::from(half_year);
-    let paid_later = u128::from(unpaid - payment) * year_earlier;
+    let later = u128::from(year_earlier(next_factor, rate));
+    let paid_later = u128::from(unpaid - payment) * later;
     let factor = (paid_next + paid_later) / u128::from(unpaid);
     u64::try_from(factor).expect("a factor is at most 1")
 }

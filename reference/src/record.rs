@@ -156,7 +156,7 @@ fn numbers(fields: &[&[u8]], kinds: &[NumberKind]) -> Result<Vec<i64>, Question>
 
 /// "A number is digits without leading zeros ("0" alone is right); a minus sign
 /// is allowed only before a nonzero paid in YEAR."
-fn well_written(field: &[u8], kind: NumberKind) -> bool {
+pub fn well_written(field: &[u8], kind: NumberKind) -> bool {
     match field {
         b"0" => true,
         [b'-', digits @ ..] => kind == NumberKind::PaidInYear && nonzero_digits(digits),
@@ -181,7 +181,7 @@ fn within(field: &[u8], kind: NumberKind) -> Result<i64, Question> {
 
 /// The value of a well-written number. One too large for its type stops at the
 /// type's end, which is past every limit.
-fn value(field: &[u8]) -> i128 {
+pub fn value(field: &[u8]) -> i128 {
     match field {
         [b'-', digits @ ..] => -value(digits),
         digits => digits.iter().fold(0_i128, |number, digit| {

@@ -15,14 +15,17 @@ impl Row {
         self.unpaid + self.tabular_discount
     }
 
+    /// "(gross × published + 500,000) / 1,000,000 rounded down"
+    pub fn rounded(self, published_factor: u64) -> u64 {
+        let product = u128::from(self.gross()) * u128::from(published_factor);
+        let rounded = (product + 500_000) / 1_000_000;
+        u64::try_from(rounded).expect("a published factor is at most 1")
+    }
+
     /// "Discounted is the smaller of unpaid and (gross × published + 500,000) /
     /// 1,000,000 rounded down."
     pub fn discounted(self, published_factor: u64) -> u64 {
-        let product = u128::from(self.gross()) * u128::from(published_factor);
-        let rounded = (product + 500_000) / 1_000_000;
-        u64::try_from(rounded)
-            .expect("a published factor is at most 1")
-            .min(self.unpaid)
+        self.rounded(published_factor).min(self.unpaid)
     }
 
     /// "A row with gross 0 discounts to 0, whether a pattern is kept for it or
