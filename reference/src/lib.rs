@@ -10,12 +10,14 @@
 //! `whole_book` the input of the speed comparison, and `stored_input` the inputs
 //! that are stored with the proved programs, which `input_text` helps to write.
 //! `program` runs a program, and `comparison` sets its answers beside ours.
+//! `explain` tells a person what each answer of a run means.
 
 pub mod accepted_record;
 pub mod answer;
 pub mod book;
 pub mod comparison;
 pub mod exact;
+pub mod explain;
 pub mod factor;
 pub mod input_text;
 pub mod kinds;

@@ -1,0 +1,81 @@
+//! The fields of each record: the place, the name and the kind of each number.
+
+use crate::kinds::{Letter, NumberKind};
+use crate::rate::MONTHS;
+use crate::record::{line_numbers, pattern_numbers, rate_numbers, year_numbers};
+
+/// The words that a record begins with.
+pub const WORDS: [&str; 4] = ["LINE", "RATE", "PATT", "YEAR"];
+
+/// A field that holds a number. Places are counted from 1.
+pub struct NumberField {
+    pub place: usize,
+    pub name: String,
+    pub kind: NumberKind,
+}
+
+impl NumberField {
+    /// "field 4, paid of age 1"
+    pub fn described(&self) -> String {
+        format!("field {}, {}", self.place, self.name)
+    }
+}
+
+/// The numbers of a record that begins with these fields, in their order. They
+/// are the last fields of every record.
+pub fn number_fields(word: &[u8], second_field: &[u8]) -> Vec<NumberField> {
+    match (word, Letter::covered(second_field)) {
+        (b"LINE", _) => from_place(3, vec!["opening".to_string()], line_numbers()),
+        (b"RATE", _) => from_place(2, rate_names(), rate_numbers()),
+        (b"PATT", Some(letter)) => from_place(3, pattern_names(letter), pattern_numbers(letter)),
+        (b"YEAR", Some(letter)) => from_place(3, year_names(letter), year_numbers(letter)),
+        _ => Vec::new(),
+    }
+}
+
+fn from_place(first: usize, names: Vec<String>, kinds: Vec<NumberKind>) -> Vec<NumberField> {
+    let numbers = (first..).zip(names.into_iter().zip(kinds));
+    let fields = numbers.map(|(place, (name, kind))| NumberField { place, name, kind });
+    fields.collect()
+}
+
+fn rate_names() -> Vec<String> {
+    let mut names = vec!["accident year".to_string()];
+    names.extend((1..=MONTHS).map(|month| format!("rate of month {month}")));
+    names
+}
+
+fn pattern_names(letter: Letter) -> Vec<String> {
+    let mut names = vec!["accident year".to_string()];
+    for age in 1..=letter.kind().ages() {
+        names.extend(["paid", "incurred"].map(|what| format!("{what} of age {age}")));
+    }
+    names
+}
+
+fn year_names(letter: Letter) -> Vec<String> {
+    let mut names = vec!["year".to_string()];
+    for row in row_names(letter) {
+        let columns = ["paid", "unpaid", "tabular discount"];
+        names.extend(columns.map(|what| format!("{what} of {row}")));
+    }
+    names
+}
+
+/// The rows of a YEAR: "for each age, prior row last".
+fn row_names(letter: Letter) -> Vec<String> {
+    let ages = 1..=letter.kind().ages();
+    let mut names: Vec<String> = ages.map(|age| format!("age {age}")).collect();
+    names.push("the prior row".to_string());
+    names
+}
+
+/// The places of paid and incurred of an age in a PATT.
+pub fn places_in_pattern(age: usize) -> String {
+    format!("fields {} and {}", 2 * age + 2, 2 * age + 3)
+}
+
+/// The places of an age's row in a YEAR.
+pub fn places_in_year(age: usize) -> String {
+    format!("fields {} to {}", 3 * age + 1, 3 * age + 3)
+}

@@ -1,0 +1,226 @@
+//! Where a record fails in its form: questions 1 to 4.
+
+use super::earlier_records::Subject;
+use super::line_names::kind_name;
+use super::record_names::{number_fields, NumberField, WORDS};
+use super::refusal::{Fault, Refused};
+use super::shown::{counted, quoted, thousands};
+use crate::kinds::{Letter, TEN_YEAR_LETTERS, TWO_YEAR_LETTERS};
+use crate::record::LONGEST_LINE;
+
+/// The words, if the cause shows.
+fn hint(shows: bool, words: impl Into<String>) -> Option<String> {
+    shows.then(|| words.into())
+}
+
+/// Question 1.
+pub fn line_length(refused: &Refused) -> Fault {
+    let line = refused.line;
+    let place = format!(
+        "the line has {} bytes, and {} are allowed",
+        thousands(line.len()),
+        thousands(LONGEST_LINE)
+    );
+    let words = line.windows(4).filter(|part| is_word(part)).count();
+    let inner_return = line[..line.len().saturating_sub(1)].contains(&b'\r');
+    let empty = empty_at_end(&refused.fields);
+    let hints = [
+        hint(words > 1, "more than one record stands in the line"),
+        hint(
+            inner_return,
+            "carriage returns stand in it: the lines may end in these",
+        ),
+        hint(
+            empty > 0,
+            format!("it ends in {}", counted(empty, "empty field")),
+        ),
+    ];
+    Fault::at(place, hints.into_iter().flatten().collect())
+}
+
+fn is_word(bytes: &[u8]) -> bool {
+    WORDS.iter().any(|word| word.as_bytes() == bytes)
+}
+
+/// How many fields at the end are empty, or hold a carriage return alone.
+fn empty_at_end(fields: &[&[u8]]) -> usize {
+    let is_empty = |field: &&&[u8]| matches!(**field, b"" | b"\r");
+    fields.iter().rev().take_while(is_empty).count()
+}
+
+/// Question 2.
+pub fn first_word(refused: &Refused) -> Fault {
+    let place = format!("the first field is {}", quoted(refused.word()));
+    let mut hints = hints_of_encoding(refused.line);
+    match Subject::read(refused.line) {
+        Some(subject) => hints.extend(hints_of_word(refused.word(), subject.word)),
+        None if hints.is_empty() => hints.extend(hints_of_other_line(refused.line)),
+        None => {}
+    }
+    Fault::at(place, hints)
+}
+
+fn hints_of_encoding(line: &[u8]) -> Vec<String> {
+    let wide_mark = line.starts_with(b"\xff\xfe") || line.starts_with(b"\xfe\xff");
+    let wide = wide_mark || line.contains(&0);
+    let hints = [
+        hint(wide, "the file is saved as UTF-16: save it as UTF-8"),
+        hint(
+            line.starts_with(b"\xef\xbb\xbf"),
+            "a byte order mark stands before it: save as UTF-8 without one",
+        ),
+    ];
+    hints.into_iter().flatten().collect()
+}
+
+/// The word can be made out in the first field, or in what stands before a
+/// separator that is no tab.
+fn hints_of_word(field: &[u8], word: &str) -> Vec<String> {
+    let at = field.windows(4).position(|part| part == word.as_bytes());
+    let small = field.to_ascii_uppercase();
+    let small_at = small.windows(4).position(|part| part == word.as_bytes());
+    let place = at.or(small_at);
+    let before = &field[..place.unwrap_or(0)];
+    let after = &field[place.map_or(0, |place| place + 4)..];
+    let rest = after.trim_ascii();
+    let parted_by = |byte: u8| place.is_some() && after.starts_with(&[byte]) && !rest.is_empty();
+    let hints = [
+        hint(
+            at.is_none() && place.is_some(),
+            format!("small letters: write {word}"),
+        ),
+        hint(
+            field.contains(&b'"'),
+            "quotes: write the fields without them",
+        ),
+        hint(before.contains(&b' '), "a blank stands before the word"),
+        hint(
+            place.is_some() && !after.is_empty() && rest.is_empty(),
+            format!("{} stands after the word", quoted(after)),
+        ),
+        hint(parted_by(b' '), "blanks stand where tabs part the fields"),
+        hint(parted_by(b','), "commas stand where tabs part the fields"),
+        hint(
+            parted_by(b';'),
+            "semicolons stand where tabs part the fields",
+        ),
+    ];
+    hints.into_iter().flatten().collect()
+}
+
+/// No word can be made out.
+fn hints_of_other_line(line: &[u8]) -> Vec<String> {
+    let is_answer = |word: &&str| line.starts_with(word.as_bytes());
+    let answer = ["FACT\t", "TAX\t", "NO\t", "DONE\t"].iter().any(is_answer);
+    let words = match line {
+        b"" => "the line is empty: delete it",
+        b"\r" => "an empty line of a file with Windows line ends: delete it",
+        _ if line.trim_ascii().is_empty() => "the line is blank: delete it",
+        _ if answer => "it is an answer of the book and no record",
+        _ => "a header row, a note or a word that the book does not know",
+    };
+    vec![words.to_string()]
+}
+
+/// Question 3.
+pub fn covered_letter(refused: &Refused) -> Fault {
+    let Some(field) = refused.fields.get(1) else {
+        return Fault::at("there is no second field".to_string(), Vec::new());
+    };
+    let place = format!("the second field is {}", quoted(field));
+    let cleaned: Vec<u8> = field
+        .iter()
+        .filter(|byte| byte.is_ascii_alphanumeric())
+        .map(u8::to_ascii_uppercase)
+        .collect();
+    let covered = Letter::covered(&cleaned).map(Letter::character);
+    let capital = |letter: char| format!("write the capital letter alone: {letter}");
+    let number = !field.is_empty() && field.iter().all(u8::is_ascii_digit);
+    let hints = [
+        hint(field.is_empty(), "the field is empty"),
+        covered.map(capital),
+        hint(number, "a number: the letter stands before the year"),
+        hint(covered.is_none(), covered_letters()),
+    ];
+    Fault::at(place, hints.into_iter().flatten().collect())
+}
+
+fn covered_letters() -> String {
+    let letters = |bytes: &[u8]| {
+        let letters = bytes.iter().map(|byte| char::from(*byte).to_string());
+        letters.collect::<Vec<_>>().join(" ")
+    };
+    format!(
+        "covered are {} and {}",
+        letters(TEN_YEAR_LETTERS),
+        letters(TWO_YEAR_LETTERS)
+    )
+}
+
+/// Question 4.
+pub fn field_count(refused: &Refused) -> Fault {
+    let found = refused.fields.len();
+    let numbers = number_fields(refused.word(), refused.second_field());
+    let expected = numbers.last().map_or(0, |last| last.place);
+    let place = format!(
+        "there are {}, and {} has {expected}",
+        counted(found, "field"),
+        record_name(refused)
+    );
+    let mut missing = numbers.iter().filter(|number| number.place > found);
+    let ends = |first: &NumberField| format!("{place}: it ends before {}", first.described());
+    let place = missing.next().map_or(place.clone(), ends);
+    Fault::at(place, hints_of_count(refused, expected))
+}
+
+/// "a PATT of a two-year line", "a RATE"
+fn record_name(refused: &Refused) -> String {
+    let word = String::from_utf8_lossy(refused.word());
+    match Letter::covered(refused.second_field()) {
+        Some(letter) if word != "LINE" => {
+            format!("a {word} of a {} line", kind_name(letter.kind()))
+        }
+        _ => format!("a {word}"),
+    }
+}
+
+fn hints_of_count(refused: &Refused, expected: usize) -> Vec<String> {
+    let fields = &refused.fields;
+    let too_many = fields.len() > expected;
+    let at_end = empty_at_end(fields);
+    let inner = &fields[..fields.len() - at_end];
+    let in_the_middle = inner.iter().filter(|field| field.is_empty()).count();
+    let blank = fields
+        .iter()
+        .any(|field| field.trim_ascii().contains(&b' '));
+    let hints = [
+        hint(
+            too_many && at_end == 1,
+            "the last field is empty: a tab stands at the end of the line",
+        ),
+        hint(
+            too_many && at_end > 1,
+            format!("the last {} fields are empty columns", thousands(at_end)),
+        ),
+        hint(
+            too_many && in_the_middle > 0,
+            format!("{} before the last", counted(in_the_middle, "empty field")),
+        ),
+        hint(
+            is_count_of_other_kind(refused),
+            "it is the count of the other kind of line",
+        ),
+        hint(blank, "blanks stand in a field: a tab parts two fields"),
+    ];
+    hints.into_iter().flatten().collect()
+}
+
+/// Has the same word so many fields with the letter of another kind of line?
+fn is_count_of_other_kind(refused: &Refused) -> bool {
+    let letters = Letter::all().into_iter().map(Letter::character);
+    let mut counts = letters.map(|letter| {
+        let numbers = number_fields(refused.word(), &[letter as u8]);
+        numbers.last().map_or(0, |last| last.place)
+    });
+    counts.any(|count| count == refused.fields.len())
+}
