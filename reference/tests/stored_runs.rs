@@ -5,19 +5,11 @@
 mod common;
 
 use std::collections::BTreeMap;
-use std::path::PathBuf;
 
-use common::output;
+use common::{output, stored};
 use reference::run::{records, run};
 use reference::stored_input::edges::edges;
 use reference::stored_input::{stored_input, MEBIBYTE, NAMES, RANDOM_RECORDS};
-
-/// A file that is stored with a program.
-fn stored(program: &str, file: &str) -> Vec<u8> {
-    let crates = PathBuf::from(env!("CARGO_MANIFEST_DIR")).join("../crates");
-    let path = crates.join(program).join(file);
-    std::fs::read(&path).unwrap_or_else(|error| panic!("{}: {error}", path.display()))
-}
 
 fn made(program: &str) -> Vec<u8> {
     stored_input(program).expect("a program's name")

@@ -97,6 +97,7 @@ fn records_html(records: &[(usize, String)]) -> String {
 /// The box of a table scrolls where the screen is narrow.
 fn table_html(table: &Table) -> String {
     let caption = escaped(&table.caption);
+    let name = caption.split(". ").next().unwrap_or_default();
     let titles = table.columns.iter().map(|column| {
         let title = escaped(column.title);
         format!("<th scope=\"col\"{}>{title}</th>", side_class(column))
@@ -105,7 +106,7 @@ fn table_html(table: &Table) -> String {
     let rows = table.rows.iter().map(|row| row_html(table, row));
     let rows: String = rows.collect();
     format!(
-        "<div class=\"wide\" role=\"region\" tabindex=\"0\" aria-label=\"{caption}\">\n<table>\n\
+        "<div class=\"wide\" role=\"region\" tabindex=\"0\" aria-label=\"{name}\">\n<table>\n\
          <caption>{caption}</caption>\n<thead>\n<tr>{titles}</tr>\n</thead>\n<tbody>\n{rows}</tbody>\n\
          </table>\n</div>\n"
     )

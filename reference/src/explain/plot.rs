@@ -17,11 +17,18 @@ pub struct Point {
 
 /// The drawing's own units, in which the page scales it.
 const WIDTH: f64 = 760.0;
-const HEIGHT: f64 = 350.0;
+const HEIGHT: f64 = 356.0;
 const LEFT: f64 = 62.0;
 const RIGHT: f64 = 748.0;
 const TOP: f64 = 48.0;
 const BOTTOM: f64 = 296.0;
+
+/// Where a factor is written from its point, and over two ages of what rise it
+/// is written aside.
+const ABOVE: f64 = -10.0;
+const BELOW: f64 = 18.0;
+const ASIDE: f64 = 14.0;
+const STEEP: f64 = 40.0;
 
 /// At most so many steps stand on the axis of factors.
 const MOST_STEPS: u64 = 6;
@@ -115,7 +122,7 @@ impl Plot {
         let middle = (LEFT + RIGHT) / 2.0;
         axes += &svg_text("start", 4.0, 18.0, "factor");
         let ages = "age (prior: the composite, for the prior row)";
-        axes + &svg_text("middle", middle, BOTTOM + 44.0, ages)
+        axes + &svg_text("middle", middle, BOTTOM + 53.0, ages)
     }
 
     /// The line through the ages.
@@ -135,8 +142,8 @@ impl Plot {
         format!("<polyline class=\"curve\" points=\"{places}\"/>\n")
     }
 
-    /// A point, its factor above it and its name below the axis. Where nothing
-    /// is unpaid the point is hollow.
+    /// A point, its factor beside the line and its name below the axis. Where
+    /// nothing is unpaid the point is hollow.
     fn mark(&self, place: usize, point: &Point, scale: &Scale) -> String {
         let (across, height) = (self.across(place), scale.height(point.factor));
         let class = if point.has_unpaid { "point" } else { "hollow" };
@@ -144,8 +151,33 @@ impl Plot {
         let factor = rounded(point.factor, decimals);
         let mut mark =
             format!("<circle class=\"{class}\" cx=\"{across:.1}\" cy=\"{height:.1}\" r=\"4\"/>\n");
-        mark += &svg_text("middle value", across, height - 10.0, &factor);
-        mark + &svg_text("middle", across, BOTTOM + 22.0, &point.name)
+        let (aside, above) = self.beside_the_line(place, scale);
+        mark += &svg_text("middle value", across + aside, height + above, &factor);
+        mark + &svg_text("middle", across, BOTTOM + 32.0, &point.name)
+    }
+
+    /// How far from its point a factor is written so that the line does not go
+    /// through it: below where the line bends upwards, and aside where it is
+    /// steep.
+    fn beside_the_line(&self, place: usize, scale: &Scale) -> (f64, f64) {
+        let ages = &self.points[..self.points.len().saturating_sub(1)];
+        let height = |place: usize| Some(scale.height(ages.get(place)?.factor));
+        let before = place.checked_sub(1).and_then(height);
+        let (Some(before), Some(here), Some(after)) = (before, height(place), height(place + 1))
+        else {
+            return (0.0, ABOVE);
+        };
+        let rise = before - after;
+        let aside = if rise.abs() > STEEP {
+            ASIDE * rise.signum()
+        } else {
+            0.0
+        };
+        if before + after < 2.0 * here {
+            (aside, BELOW)
+        } else {
+            (-aside, ABOVE)
+        }
     }
 }
 

@@ -15,9 +15,10 @@ pub struct NumberField {
 }
 
 impl NumberField {
-    /// "field 4, paid of age 1"
+    /// "field 4 (column D), paid of age 1"
     pub fn described(&self) -> String {
-        format!("field {}, {}", self.place, self.name)
+        let column = column_letters(self.place);
+        format!("field {} (column {column}), {}", self.place, self.name)
     }
 }
 
@@ -72,10 +73,31 @@ fn row_names(letter: Letter) -> Vec<String> {
 
 /// The places of paid and incurred of an age in a PATT.
 pub fn places_in_pattern(age: usize) -> String {
-    format!("fields {} and {}", 2 * age + 2, 2 * age + 3)
+    place_range(2 * age + 2, "and", 2 * age + 3)
 }
 
 /// The places of an age's row in a YEAR.
 pub fn places_in_year(age: usize) -> String {
-    format!("fields {} to {}", 3 * age + 1, 3 * age + 3)
+    place_range(3 * age + 1, "to", 3 * age + 3)
+}
+
+/// "fields 4 and 5, columns D and E"
+fn place_range(first: usize, word: &str, last: usize) -> String {
+    let columns = [first, last].map(column_letters);
+    format!(
+        "fields {first} {word} {last}, columns {} {word} {}",
+        columns[0], columns[1]
+    )
+}
+
+/// The column of a field in a spreadsheet: A to Z, then AA to AZ, and so on.
+fn column_letters(place: usize) -> String {
+    let mut letters = String::new();
+    let mut rest = place;
+    while rest > 0 {
+        let letter = b'A' + ((rest - 1) % 26) as u8;
+        letters.insert(0, char::from(letter));
+        rest = (rest - 1) / 26;
+    }
+    letters
 }

@@ -1,6 +1,7 @@
 //! A refused record: the question in words, and where exactly it fails.
 
 use super::earlier_records::EarlierRecords;
+use super::record_names::WORDS;
 use super::refused_figures::{falling_ratios, paid_not_within_incurred, rows_without_pattern};
 use super::refused_form::{covered_letter, field_count, first_word, line_length};
 use super::refused_numbers::{badly_written, past_limits};
@@ -63,7 +64,7 @@ fn in_words(question: Question) -> String {
         Question::LineLength => {
             return format!("Has the line at most {} bytes?", thousands(LONGEST_LINE))
         }
-        Question::Word => "Is the first field one of the words LINE, RATE, PATT and YEAR?",
+        Question::Word => return format!("Is the first field one of {}?", WORDS.join(", ")),
         Question::CoveredLetter => "Is the second field a covered letter?",
         Question::FieldCount => "Is the count of fields right?",
         Question::WellWritten => "Is every number well written?",

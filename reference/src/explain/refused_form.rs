@@ -200,7 +200,10 @@ fn hints_of_count(refused: &Refused, expected: usize) -> Vec<String> {
         ),
         hint(
             too_many && at_end > 1,
-            format!("the last {} fields are empty columns", thousands(at_end)),
+            format!(
+                "the last {} fields are empty: tabs or empty columns at the end",
+                thousands(at_end)
+            ),
         ),
         hint(
             too_many && in_the_middle > 0,

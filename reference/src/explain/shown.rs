@@ -77,6 +77,9 @@ const LONGEST_RECORD: usize = 54;
 
 /// A record with a stroke for each tab, its first fields if it is long.
 pub fn shown_record(line: &[u8]) -> String {
+    if line.is_empty() {
+        return "(an empty line)".to_string();
+    }
     let byte_or_mark = |byte: u8| match byte {
         b'\t' => FIELD_MARK.to_string(),
         _ => escaped_byte(byte),

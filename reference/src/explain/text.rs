@@ -75,12 +75,16 @@ fn wrapped(beginning: &str, text: &str) -> Vec<String> {
         0 => format!("{beginning}{piece}"),
         _ => format!("{indent}{piece}"),
     };
-    pieces.into_iter().enumerate().map(line).collect()
+    let lines = pieces.into_iter().enumerate().map(line);
+    lines.map(|line| line.trim_end().to_string()).collect()
 }
 
-/// A text cut at its blanks into pieces of at most that width; a word that is
-/// longer is cut within.
+/// A text that is too long cut at its blanks into pieces of at most that width;
+/// a word that is longer is cut within.
 fn cut(text: &str, width: usize) -> Vec<String> {
+    if length(text) <= width {
+        return vec![text.to_string()];
+    }
     let mut pieces = vec![String::new()];
     for word in text.split(' ').flat_map(|word| short_parts(word, width)) {
         let Some(last) = pieces.last_mut() else {

@@ -1,6 +1,8 @@
 //! Helps of the tests: records are written with spaces for tabs.
 #![allow(dead_code, unused_imports)]
 
+use std::path::PathBuf;
+
 use reference::answer::Answer;
 use reference::book::Book;
 use reference::input_text::ended_records;
@@ -8,6 +10,13 @@ pub use reference::input_text::{flat_pattern, line, rate, repeated};
 use reference::pattern::{cumulative_ratio, CumulativeRow, Pattern};
 use reference::reserve::Row;
 use reference::run::run;
+
+/// A file that is stored with a program.
+pub fn stored(program: &str, file: &str) -> Vec<u8> {
+    let crates = PathBuf::from(env!("CARGO_MANIFEST_DIR")).join("../crates");
+    let path = crates.join(program).join(file);
+    std::fs::read(&path).unwrap_or_else(|error| panic!("{}: {error}", path.display()))
+}
 
 /// The book after some records, all of which are accepted.
 pub fn book_after(records: &[&str]) -> Book {
