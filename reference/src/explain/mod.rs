@@ -100,24 +100,25 @@ impl Explanation {
 
     /// The heading, the record and its answer.
     fn head(&mut self, number: usize, line: &[u8], subject: Option<Subject>, answer: &Answer) {
-        let refusal = match answer {
-            Answer::No(question) => Some(format!("refused (NO {})", question.number())),
-            _ => None,
+        let (is_refused, outcome) = match answer {
+            Answer::No(question) => (true, format!("refused (NO {})", question.number())),
+            _ => (false, "accepted".to_string()),
         };
-        let outcome = refusal.clone().unwrap_or("accepted".to_string());
-        let what = |outcome: String| match subject {
+        let said = match subject {
             Some(subject) => format!("{}, {outcome}", subject.described()),
             None => outcome,
         };
-        self.refused
-            .extend(refusal.map(|refusal| (number, what(refusal))));
         self.blocks.push(Block::Heading(Heading {
             line_number: Some(number),
-            text: format!("Line {}: {}", thousands(number), what(outcome)),
+            is_refused,
+            text: format!("Line {}: {said}", thousands(number)),
         }));
+        if is_refused {
+            self.refused.push((number, said));
+        }
         self.blocks.push(labelled("record", shown_record(line)));
-        self.blocks
-            .push(labelled("answer", with_blanks(&answer.bytes())));
+        let answer = with_blanks(&answer.bytes());
+        self.blocks.push(labelled("answer", answer));
     }
 
     fn remember(&mut self, number: usize, subject: Option<Subject>, answer: &Answer) {
@@ -134,10 +135,11 @@ impl Explanation {
         let Book {
             accepted, refused, ..
         } = self.book;
-        let text = "The end".to_string();
-        let line_number = None;
-        self.blocks
-            .push(Block::Heading(Heading { line_number, text }));
+        self.blocks.push(Block::Heading(Heading {
+            line_number: None,
+            is_refused: false,
+            text: "The end".to_string(),
+        }));
         let answer = with_blanks(&done(accepted, refused));
         self.blocks.push(labelled("answer", answer));
         let [accepted, refused] =

@@ -72,10 +72,13 @@ fn heading_html(heading: &Heading) -> String {
         .line_number
         .map(|number| format!(" id=\"line-{number}\""));
     let id = id.unwrap_or_default();
-    format!(
-        "</section>\n<section{id}>\n<h2>{}</h2>\n",
-        escaped(&heading.text)
-    )
+    let class = if heading.is_refused {
+        " class=\"refused\""
+    } else {
+        ""
+    };
+    let text = escaped(&heading.text);
+    format!("</section>\n<section{id}>\n<h2{class}>{text}</h2>\n")
 }
 
 fn labelled_html(label: &str, text: &str) -> String {

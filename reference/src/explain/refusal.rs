@@ -6,7 +6,7 @@ use super::refused_figures::{falling_ratios, paid_not_within_incurred, rows_with
 use super::refused_form::{covered_letter, field_count, first_word, line_length};
 use super::refused_numbers::{badly_written, past_limits};
 use super::refused_turn::{given_before, not_declared, not_in_turn, without_rate};
-use super::report::{labelled, paragraph, Block};
+use super::report::{paragraph, Block};
 use super::shown::thousands;
 use crate::book::Book;
 use crate::question::Question;
@@ -113,7 +113,7 @@ pub fn blocks(question: Question, refused: &Refused) -> Vec<Block> {
         Block::List(places),
     ];
     if !hints.is_empty() {
-        blocks.push(labelled("hint", hints.join("; ")));
+        blocks.push(paragraph(format!("Hint: {}.", hints.join("; "))));
     }
     blocks.push(paragraph(format!(
         "How to mend it: docs/MANUAL.md, NO {number}."

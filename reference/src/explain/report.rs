@@ -29,6 +29,7 @@ pub enum Block {
 /// The heading of a record has the number of its line.
 pub struct Heading {
     pub line_number: Option<usize>,
+    pub is_refused: bool,
     pub text: String,
 }
 

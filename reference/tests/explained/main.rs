@@ -1,10 +1,12 @@
-//! What `explain` says: of accepted records and of a whole run (`runs`), of
-//! refused records by their questions (`refused_form`, `refused_book`), and how
-//! its page and its program are (`page`).
+//! What `explain` says of whole runs (`runs`), of accepted records (`figures`)
+//! and of refused ones (`refused_form`, `refused_book`), and its `page` and
+//! `program`.
 
 #[path = "../common/mod.rs"]
 mod common;
+mod figures;
 mod page;
+mod program;
 mod refused_book;
 mod refused_form;
 mod runs;
@@ -13,6 +15,8 @@ use common::line;
 use reference::explain::explain;
 use reference::explain::text::text;
 use reference::input_text::ended_lines;
+
+const CLASS: &str = concat!(env!("CARGO_MANIFEST_DIR"), "/../examples/class.txt");
 
 /// The part of the text that is about the last of some lines. Lines that were
 /// cut are joined again.

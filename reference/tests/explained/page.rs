@@ -1,13 +1,10 @@
-//! The page that `explain` writes, and the program's arguments.
-
-use std::path::{Path, PathBuf};
-use std::process::{Command, Output};
+//! The page needs nothing from outside, prints, and can be read by all.
 
 use reference::explain::explain;
 use reference::explain::page::page;
 use reference::stored_input::stored_input;
 
-const CLASS: &str = concat!(env!("CARGO_MANIFEST_DIR"), "/../examples/class.txt");
+use crate::CLASS;
 
 /// The pages of a class example and of inputs with every answer and every
 /// refusal.
@@ -21,37 +18,48 @@ fn pages() -> Vec<String> {
         .collect()
 }
 
+/// What would take something from elsewhere.
+const OUTSIDE: [&str; 9] = [
+    "http:", "https:", "//", "src=", "url(", "@import", "<link", "<script", "<iframe",
+];
+
 #[test]
 fn the_page_needs_nothing_from_outside() {
     for page in pages() {
-        for outside in [
-            "http:", "https:", "//", "src=", "url(", "@import", "<link", "<script", "<iframe",
-        ] {
-            assert!(!page.contains(outside), "{outside}");
-        }
-        let links = page.split("href=\"").skip(1);
-        assert!(links.clone().all(|link| link.starts_with("#line-")));
-        for link in links {
-            let name = link[1..].split('"').next().expect("a name");
-            assert!(page.contains(&format!("<section id=\"{name}\">")), "{name}");
-        }
+        let found = OUTSIDE.iter().find(|part| page.contains(*part));
+        assert_eq!(found, None);
     }
+}
+
+/// Every link leads to a section of the page.
+#[test]
+fn every_link_stays_in_the_page() {
+    for page in pages() {
+        let links = page.split("href=\"").skip(1);
+        let mut names = links.filter_map(|link| link.split('"').next());
+        let has_section = |name: &str| {
+            let section = format!("<section id=\"{}\">", name.trim_start_matches('#'));
+            name.starts_with("#line-") && page.contains(&section)
+        };
+        assert!(names.all(has_section));
+    }
+}
+
+/// Does a rule of a style give a width that is not a part of the screen's?
+fn has_fixed_width(rule: &str) -> bool {
+    let mut declarations = rule.split(['{', ';']).map(str::trim);
+    declarations.any(|text| text.starts_with("width:") && text != "width: 100%")
 }
 
 #[test]
 fn the_page_has_a_print_style_and_no_fixed_width() {
     for page in pages() {
-        assert!(page.contains("@media print"));
-        assert!(page.contains("break-after: avoid") && page.contains("break-inside: avoid"));
         let style = page.split("<style>").nth(1).expect("a style");
-        let style = style.split("</style>").next().expect("its end");
-        for rule in style.split('}') {
-            let (selector, declarations) = rule.split_once('{').unwrap_or_default();
-            let mut declarations = declarations.split([';', '{']).map(str::trim);
-            let fixed = |text: &str| text.starts_with("width:") && text != "width: 100%";
-            assert!(!declarations.any(fixed), "{selector}");
-        }
-        assert!(!page.contains(" width=\"") && !page.contains("style=\""));
+        let (style, body) = style.split_once("</style>").expect("its end");
+        let (_, print) = style.split_once("@media print {").expect("a print style");
+        assert!(print.contains("break-after: avoid") && print.contains("break-inside: avoid"));
+        assert!(!style.split('}').any(has_fixed_width));
+        assert!(!body.contains(" width=\"") && !body.contains("style=\""));
     }
 }
 
@@ -59,40 +67,36 @@ fn the_page_has_a_print_style_and_no_fixed_width() {
 fn the_page_can_be_read_without_sight() {
     for page in pages() {
         assert!(page.starts_with("<!DOCTYPE html>\n<html lang=\"en\">"));
-        assert!(page.contains("<meta charset=\"utf-8\">") && page.contains("<title>The records"));
-        assert!(page.contains("name=\"viewport\""));
+        assert!(page.contains("<meta charset=\"utf-8\">") && page.contains("name=\"viewport\""));
         let count = |part: &str| page.matches(part).count();
-        assert_eq!(count("<table>"), count("<caption>"));
+        assert_eq!(count("<caption>"), count("<table>"));
         assert_eq!(count("<thead>"), count("<table>"));
-        assert_eq!(
-            count("<th scope=\"col\"") + count("<th scope=\"row\""),
-            count("<th ")
-        );
-        assert_eq!(count("<svg "), count("role=\"img\""));
-        assert_eq!(count("<svg ") + 1, count("<title>"));
+        let scopes = count("<th scope=\"col\"") + count("<th scope=\"row\"");
+        assert_eq!(scopes, count("<th>") + count("<th "));
+        assert_eq!(count("role=\"img\""), count("<svg "));
+        assert_eq!(count("<title>"), 1 + count("<svg "));
     }
+}
+
+/// The tags that are still open after another one.
+fn after_tag<'a>(mut open: Vec<&'a str>, tag: &'a str) -> Vec<&'a str> {
+    let mut names = tag.split([' ', '/']).filter(|name| !name.is_empty());
+    let name = names.next().unwrap_or(tag);
+    if tag.starts_with('/') {
+        assert_eq!(open.pop(), Some(name));
+    } else if !tag.ends_with('/') && !["!DOCTYPE", "meta"].contains(&name) {
+        open.push(name);
+    }
+    open
 }
 
 /// What is opened is closed, in order.
 #[test]
 fn the_page_is_well_formed() {
     for page in pages() {
-        let mut open: Vec<&str> = Vec::new();
-        for tag in page
-            .split('<')
-            .skip(1)
-            .map(|part| part.split('>').next().unwrap_or(part))
-        {
-            let name = tag
-                .split([' ', '/'])
-                .find(|name| !name.is_empty())
-                .unwrap_or(tag);
-            if tag.starts_with('/') {
-                assert_eq!(open.pop(), Some(name), "{tag}");
-            } else if !tag.ends_with('/') && !["!DOCTYPE", "meta"].contains(&name) {
-                open.push(name);
-            }
-        }
+        let parts = page.split('<').skip(1);
+        let tags = parts.filter_map(|part| part.split('>').next());
+        let open = tags.fold(Vec::new(), after_tag);
         assert!(open.is_empty(), "{open:?}");
     }
 }
@@ -103,101 +107,4 @@ fn what_is_in_a_record_is_not_taken_for_html() {
     assert!(page.contains("<code>&lt;b&gt; | &amp;amp; | &quot;&#39;</code>"));
     assert!(page.contains("<h1>The records of &lt;records&gt;, explained</h1>"));
     assert!(!page.contains("<b>"));
-}
-
-fn run(arguments: &[&str]) -> Output {
-    let mut command = Command::new(env!("CARGO_BIN_EXE_explain"));
-    command.args(arguments).stdin(std::process::Stdio::null());
-    command.output().expect("explain runs")
-}
-
-fn message(output: &Output) -> String {
-    String::from_utf8_lossy(&output.stderr).into_owned()
-}
-
-#[test]
-fn wrong_arguments_get_a_usage_message_and_status_2() {
-    let wrong: [&[&str]; 7] = [
-        &["--html"],
-        &["--help"],
-        &["-x", CLASS],
-        &[CLASS, CLASS],
-        &["--html", "a.html", "--html", "b.html", CLASS],
-        &["--html", "--html", CLASS],
-        &[""],
-    ];
-    for arguments in wrong {
-        let output = run(arguments);
-        assert_eq!(output.status.code(), Some(2), "{arguments:?}");
-        assert!(message(&output).starts_with("usage: explain [--html FILE] [RECORDS]\n"));
-        assert!(output.stdout.is_empty());
-    }
-}
-
-#[test]
-fn a_file_that_cannot_be_read_or_written_is_named() {
-    for arguments in [
-        vec!["no/such/records.txt"],
-        vec!["--html", "no/such/page.html", CLASS],
-    ] {
-        let output = run(&arguments);
-        assert_eq!(output.status.code(), Some(1), "{arguments:?}");
-        let named = arguments
-            .iter()
-            .find(|text| text.starts_with("no/"))
-            .expect("a name");
-        assert!(message(&output).contains(named), "{}", message(&output));
-        assert!(output.stdout.is_empty());
-    }
-}
-
-/// A directory of a test's own, removed at its end.
-struct Folder(PathBuf);
-
-impl Folder {
-    fn new(name: &str) -> Folder {
-        let name = format!("explain.{name}.{}", std::process::id());
-        let folder = std::env::temp_dir().join(name);
-        std::fs::create_dir(&folder).expect("a new directory");
-        Folder(folder)
-    }
-
-    fn file(&self, name: &str) -> String {
-        self.0.join(name).display().to_string()
-    }
-}
-
-impl Drop for Folder {
-    fn drop(&mut self) {
-        let _ = std::fs::remove_dir_all(&self.0);
-    }
-}
-
-#[test]
-fn the_page_is_written_and_named_and_may_be_written_again() {
-    let folder = Folder::new("page");
-    let file = folder.file("class.html");
-    for _ in 0..2 {
-        let output = run(&["--html", &file, CLASS]);
-        assert_eq!(output.status.code(), Some(0), "{}", message(&output));
-        let said = String::from_utf8_lossy(&output.stdout).into_owned();
-        assert_eq!(said, format!("The page is {file}\n"));
-    }
-    let written = std::fs::read_to_string(&file).expect("the page");
-    let class = std::fs::read(CLASS).expect("the class example");
-    assert!(written == page(&explain(CLASS, &class)));
-}
-
-#[test]
-fn records_are_not_overwritten_by_a_page() {
-    let folder = Folder::new("records");
-    let file = folder.file("class.txt");
-    std::fs::copy(CLASS, Path::new(&file)).expect("a copy");
-    for arguments in [vec!["--html", &file], vec!["--html", &file, &file]] {
-        let output = run(&arguments);
-        assert_eq!(output.status.code(), Some(1));
-        assert!(message(&output).contains(&file));
-    }
-    let kept = std::fs::read(&file).expect("the records");
-    assert!(kept == std::fs::read(CLASS).expect("the class example"));
 }

@@ -26,16 +26,16 @@ fn question_8_has_the_letter_and_the_refused_line() {
     let pattern = "PATT J 2015 50 100 90 100";
     let none = "no LINE has declared line J (auto physical damage, a two-year line)";
     check_record(&[], pattern, 8, &[none]);
-    let refused = "hint: LINE J was refused in line 1, with NO 5: mend that first";
+    let refused = "Hint: LINE J was refused in line 1, with NO 5: mend that first";
     check_record(&["LINE J 1,000"], pattern, 8, &[none, refused]);
-    let by_letter = "hint: LINE J was refused in line 1, with NO 3";
+    let by_letter = "Hint: LINE J was refused in line 1, with NO 3";
     check_record(
         &["LINE j 0"],
         &format!("YEAR J 2015 {}", repeated("0", 9)),
         8,
         &[by_letter],
     );
-    let by_word = "hint: LINE J was refused in line 1, with NO 2";
+    let by_word = "Hint: LINE J was refused in line 1, with NO 2";
     check_record(&["line J 0"], pattern, 8, &[by_word]);
 }
 
@@ -44,7 +44,7 @@ fn question_9_has_the_year_and_the_refused_line() {
     let pattern = "PATT J 2015 50 100 90 100";
     let none = "no RATE of accident year 2015 was accepted before this line";
     check_record(&["LINE J 0"], pattern, 9, &[none]);
-    let refused = "hint: RATE 2015 was refused in line 2, with NO 6: mend that first";
+    let refused = "Hint: RATE 2015 was refused in line 2, with NO 6: mend that first";
     check_record(
         &["LINE J 0", &rate(2015, 2_501)],
         pattern,
@@ -79,7 +79,7 @@ fn question_10_has_what_is_in_turn() {
     let closed = "2015, the year of the last pattern of line J, is closed: in turn is PATT J 2016";
     check_record(&before, &year(2015), 10, &[closed]);
     before.push("PATT J 2016 50 100 101 100");
-    let refused = "hint: PATT J 2016 was refused in line 7, with NO 11: mend that first";
+    let refused = "Hint: PATT J 2016 was refused in line 7, with NO 11: mend that first";
     check_record(&before, &year(2016), 10, &[closed, refused]);
     let pattern_of_2016 = pattern(2016);
     before.push(&pattern_of_2016);
@@ -130,7 +130,7 @@ fn question_13_has_the_row_and_the_year_that_lacks_a_pattern() {
     let rate_of_2014 = rate(2014, 5);
     let wrong = "PATT J 2014 50 100 90 10";
     let before = [before[0], before[1], &rate_of_2014, wrong, pattern];
-    let refused = "hint: PATT J 2014 was refused in line 4, with NO 11: mend that first";
+    let refused = "Hint: PATT J 2014 was refused in line 4, with NO 11: mend that first";
     check_record(
         &before,
         "YEAR J 2015 0 0 0 0 5 3 0 0 0",

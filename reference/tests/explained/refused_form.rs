@@ -156,6 +156,10 @@ fn question_5_has_the_field_and_what_is_wrong() {
         let place = "field 7 (column G), incurred of age 2: ";
         check(&[], &pattern_with(field), 5, &[place, said]);
     }
+}
+
+#[test]
+fn question_5_has_every_field_that_is_wrong() {
     let year = |paid: &str| format!("YEAR J 2015 {paid} 0 0 0 0 0 {paid} 0 0");
     for (paid, said) in [
         ("-0", "'-0': a minus sign before 0"),
