@@ -31,19 +31,19 @@ use accepted::Accepted;
 use earlier_records::{EarlierRecords, Subject};
 use refusal::Refused;
 use report::{labelled, paragraph, Block, Heading, Report};
-use shown::{counted, escaped_within, shown_record, thousands};
+use shown::{counted, escaped_within, shown_record};
 
 use crate::answer::{done, Answer};
 use crate::book::Book;
 use crate::record::read;
 use crate::run::records;
 
-const NOTICE: &str =
-    "An explanation, not proved: the answers of the proved book (target/bin/book) are those that count.";
+const NOTICE: &str = "An explanation, not proved: the answers of the proved book \
+    (target/bin/book) are those that count.";
 
-const READING: &str = "Money is in whole thousands of dollars. A factor is what 1 of unpaid losses is \
-    worth at the year end. Lines are counted from 1 in the file of records, and a record's fields are \
-    shown with | for the tab.";
+const READING: &str = "Money is in whole thousands of dollars. A factor is what 1 of unpaid \
+    losses is worth at the year end. Lines are counted from 1 in the file of records, and a \
+    record's fields are shown with | for the tab.";
 
 /// The explanation of a run of the book over an input of that name.
 pub fn explain(name: &str, input: &[u8]) -> Report {
@@ -111,7 +111,7 @@ impl Explanation {
         self.blocks.push(Block::Heading(Heading {
             line_number: Some(number),
             is_refused,
-            text: format!("Line {}: {said}", thousands(number)),
+            text: format!("Line {number}: {said}"),
         }));
         if is_refused {
             self.refused.push((number, said));
@@ -145,8 +145,8 @@ impl Explanation {
         let [accepted, refused] =
             [accepted, refused].map(|count| counted(count as usize, "record"));
         self.blocks.push(paragraph(format!(
-            "Accepted: {accepted}. Refused: {refused}. An output of the book without this last line \
-             was cut short."
+            "Accepted: {accepted}. Refused: {refused}. An output of the book without this last \
+             line was cut short."
         )));
         if self.refused.is_empty() {
             return;

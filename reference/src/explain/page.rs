@@ -2,7 +2,6 @@
 
 use super::plot::Plot;
 use super::report::{Block, Column, Heading, Report, Side, Table};
-use super::shown::thousands;
 
 const STYLE: &str = include_str!("page.css");
 
@@ -90,8 +89,7 @@ fn labelled_html(label: &str, text: &str) -> String {
 fn records_html(records: &[(usize, String)]) -> String {
     let item = |(number, said): &(usize, String)| {
         let said = escaped(said);
-        let line = thousands(number);
-        format!("<li><a href=\"#line-{number}\">line {line}</a>: {said}</li>\n")
+        format!("<li><a href=\"#line-{number}\">line {number}</a>: {said}</li>\n")
     };
     let items = records.iter().map(item);
     format!("<ul>\n{}</ul>\n", items.collect::<String>())
@@ -110,8 +108,8 @@ fn table_html(table: &Table) -> String {
     let rows: String = rows.collect();
     format!(
         "<div class=\"wide\" role=\"region\" tabindex=\"0\" aria-label=\"{name}\">\n<table>\n\
-         <caption>{caption}</caption>\n<thead>\n<tr>{titles}</tr>\n</thead>\n<tbody>\n{rows}</tbody>\n\
-         </table>\n</div>\n"
+         <caption>{caption}</caption>\n<thead>\n<tr>{titles}</tr>\n</thead>\n<tbody>\n{rows}\
+         </tbody>\n</table>\n</div>\n"
     )
 }
 

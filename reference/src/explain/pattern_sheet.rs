@@ -24,15 +24,18 @@ impl PatternSheet<'_> {
         let year = self.kept.accident_year;
         let mut blocks = vec![
             paragraph(format!(
-                "The payment pattern of accident year {year} in {} is kept, with its factors at the \
-                 rate of {year}, {}.",
+                "The payment pattern of accident year {year} in {} is kept, with its factors \
+                 at the rate of {year}, {}.",
                 described(self.letter),
                 percent(self.rate),
             )),
             Block::Table(self.payments()),
             labelled("H", self.half_year()),
-            labelled("g", format!("next factor / {}, rounded down to ten decimals", self.one_and_rate())),
-            labelled("factor", "(p × H + (U - p) × g) / U, rounded down to ten decimals"),
+            labelled("g", self.year_before()),
+            labelled(
+                "factor",
+                "(p × H + (U - p) × g) / U, rounded down to ten decimals",
+            ),
             Block::Table(self.factors()),
             paragraph(self.composite_rule()),
         ];
@@ -56,7 +59,8 @@ impl PatternSheet<'_> {
         ];
         Table {
             caption: format!(
-                "Payments, as parts of the incurred losses. The cumulative ratio is paid / incurred. {}",
+                "Payments, as parts of the incurred losses. The cumulative ratio is paid / \
+                 incurred. {}",
                 self.tail()
             ),
             columns: columns.map(numbers).to_vec(),
@@ -82,7 +86,8 @@ impl PatternSheet<'_> {
     fn tail(&self) -> &'static str {
         match self.letter.kind() {
             LineKind::TenYear => {
-                "Ages 11 to 15 each pay as much as age 10 while so much is unpaid, and age 16 the rest."
+                "Ages 11 to 15 each pay as much as age 10 while so much is unpaid, and age 16 \
+                 the rest."
             }
             LineKind::TwoYear => "Ages 3 and 4 each pay half of what is unpaid after age 2.",
         }
@@ -94,6 +99,11 @@ impl PatternSheet<'_> {
             decimal(half_year_factor(self.rate), 10),
             self.one_and_rate()
         )
+    }
+
+    fn year_before(&self) -> String {
+        let divisor = self.one_and_rate();
+        format!("next factor / {divisor}, rounded down to ten decimals")
     }
 
     /// 1 + r, with four decimals.
@@ -116,9 +126,9 @@ impl PatternSheet<'_> {
         rows.push(self.composite_row());
         Table {
             caption: format!(
-                "Factors, worked back from the last age. Of the unpaid U, p is paid half a year later, \
-                 and the rest is worth g. Lost is what rounding took from the exact ratio, in units of \
-                 the tenth decimal: less than {BOUND}, which is proved of the book."
+                "Factors, worked back from the last age. Of the unpaid U, p is paid half a year \
+                 later; 1 of the rest is worth g. Lost is what rounding took from the exact ratio, \
+                 in units of the tenth decimal: less than {BOUND}, which is proved of the book."
             ),
             columns: titles.map(numbers).to_vec(),
             rows,
@@ -167,8 +177,8 @@ impl PatternSheet<'_> {
         };
         format!(
             "Where nothing is unpaid the factor is H, and there is no exact ratio. The composite, \
-             for the prior row, is {rule}. A published factor is the kept one to six decimals, a half \
-             up; FACT prints it in millionths."
+             for the prior row, is {rule}. A published factor is the kept one to six decimals, a \
+             half up; FACT prints it in millionths."
         )
     }
 

@@ -38,7 +38,7 @@ pub fn badly_written(refused: &Refused) -> Fault {
 
 /// Bytes that people write in numbers.
 const USUAL_BYTES: [(u8, &str); 11] = [
-    (b'\r', "a carriage return at the end"),
+    (b'\r', "a carriage return"),
     (b',', "a comma"),
     (b'.', "a point"),
     (b'$', "a dollar sign"),

@@ -4,7 +4,7 @@ use super::earlier_records::Subject;
 use super::line_names::described;
 use super::refusal::{Fault, Refused};
 use crate::book::DeclaredLine;
-use crate::kinds::Letter;
+use crate::kinds::{Letter, LAST_YEAR};
 use crate::record::{read, Request};
 
 /// The refusals before of what has to come first.
@@ -78,19 +78,24 @@ fn pattern_in_turn(line: &DeclaredLine, letter: Letter, year: u64) -> Turn {
     let Some(last) = line.last_pattern_year() else {
         return (String::new(), None);
     };
-    let next = Subject::of_pattern(letter, last + 1);
+    let next = pattern_after(letter, last);
     let name = letter.character();
     match line.last_closed_year() {
         Some(closed) if closed != last => (
             format!("line {name} has closed {closed}, and {last}, its last pattern, is not closed"),
             Some(Subject::of_year(letter, last)),
         ),
-        _ if year == last => (format!("line {name} has the pattern of {year}"), Some(next)),
+        _ if year == last => (format!("line {name} has the pattern of {year}"), next),
         _ => (
             format!("the last pattern of line {name} is of {last}"),
-            Some(next),
+            next,
         ),
     }
+}
+
+/// The PATT after that of a year, if there is one.
+fn pattern_after(letter: Letter, year: u64) -> Option<Subject> {
+    (year < LAST_YEAR).then(|| Subject::of_pattern(letter, year + 1))
 }
 
 fn year_in_turn(line: &DeclaredLine, letter: Letter, year: u64) -> Turn {
@@ -100,9 +105,8 @@ fn year_in_turn(line: &DeclaredLine, letter: Letter, year: u64) -> Turn {
         return (why, Some(Subject::of_pattern(letter, year)));
     };
     if line.last_closed_year() == Some(last) {
-        let next = Subject::of_pattern(letter, last + 1);
         let why = format!("{last}, the year of the last pattern of line {name}, is closed");
-        return (why, Some(next));
+        return (why, pattern_after(letter, last));
     }
     let why = format!("the last pattern of line {name} is of {last}, which is not closed");
     (why, Some(Subject::of_year(letter, last)))

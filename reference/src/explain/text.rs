@@ -1,7 +1,6 @@
 //! A report as plain text.
 
 use super::report::{Block, Column, Heading, Report, Side, Table};
-use super::shown::thousands;
 
 /// No line is longer.
 pub const WIDTH: usize = 100;
@@ -14,7 +13,7 @@ pub fn text(report: &Report) -> String {
     lines.extend(wrapped("", &report.title));
     let mut before = None;
     for block in &report.blocks {
-        if parts(before, block) {
+        if is_parted(before, block) {
             lines.push(String::new());
         }
         lines.extend(block_lines(block));
@@ -25,7 +24,7 @@ pub fn text(report: &Report) -> String {
 
 /// Does a blank line stand before a block? Not after a heading or a colon, and
 /// not before a label that follows a label or a list.
-fn parts(before: Option<&Block>, block: &Block) -> bool {
+fn is_parted(before: Option<&Block>, block: &Block) -> bool {
     match (before, block) {
         (Some(Block::Heading(_)), _) => false,
         (Some(Block::Labelled { .. } | Block::List(_)), Block::Labelled { .. }) => false,
@@ -57,9 +56,7 @@ fn heading_lines(heading: &Heading) -> Vec<String> {
 }
 
 fn record_lines(records: &[(usize, String)]) -> Vec<String> {
-    let line = |(number, said): &(usize, String)| {
-        wrapped("- ", &format!("line {}: {said}", thousands(number)))
-    };
+    let line = |(number, said): &(usize, String)| wrapped("- ", &format!("line {number}: {said}"));
     records.iter().flat_map(line).collect()
 }
 

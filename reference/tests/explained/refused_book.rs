@@ -124,7 +124,8 @@ fn question_13_has_the_row_and_the_year_that_lacks_a_pattern() {
     let declared = declared();
     let pattern = "PATT J 2015 50 100 90 100";
     let before = [&declared[0], declared[1].as_str(), pattern];
-    let row = "age 2 (fields 7 to 9, columns G to I): gross 8, and no pattern of accident year 2014 is kept";
+    let row = "age 2 (fields 7 to 9, columns G to I): gross 8, and no pattern of accident year \
+        2014 is kept";
     let kept = "- kept is the pattern of 2015";
     check_record(&before, "YEAR J 2015 0 0 0 0 5 3 0 0 0", 13, &[row, kept]);
     let rate_of_2014 = rate(2014, 5);

@@ -128,7 +128,7 @@ fn pattern_with(field: &[u8]) -> Vec<u8> {
 #[test]
 fn question_5_has_the_field_and_what_is_wrong() {
     let cases: [(&[u8], &str); 17] = [
-        (b"100\r", "'100\\r': a carriage return at the end"),
+        (b"100\r", "'100\\r': a carriage return"),
         (b"100\r", "the file has Windows line ends"),
         (b"1,000", "'1,000': a comma"),
         (b"0100", "'0100': a leading zero"),
@@ -144,10 +144,7 @@ fn question_5_has_the_field_and_what_is_wrong() {
         (b"(5)", "'(5)': brackets"),
         (b"+5", "'+5': a plus sign"),
         (b" 5", "' 5': a blank"),
-        (
-            b"$1,000\r",
-            "a carriage return at the end, a comma, a dollar sign",
-        ),
+        (b"$1,000\r", "a carriage return, a comma, a dollar sign"),
         (b"1e3", "'1e3': 'e' is no digit"),
         (b"5\xa0", "'5\\xa0': '\\xa0' is no digit"),
         (b"n/a", "'n/a': 'n' is no digit"),
