@@ -57,6 +57,13 @@ pub fn not_in_turn(refused: &Refused) -> Fault {
 /// Why a record is not in turn, and which record is.
 type Turn = (String, Option<Subject>);
 
+/// What should have come between the line's last pattern and a later year: the
+/// PATT after it.
+fn between(line: &DeclaredLine, letter: Letter, year: u64) -> Option<Subject> {
+    let last = line.last_pattern_year().filter(|last| *last < year)?;
+    pattern_after(letter, last)
+}
+
 fn turn(
     refused: &Refused,
     letter: Letter,
@@ -70,7 +77,9 @@ fn turn(
     let next_words = next.map_or_else(String::new, |next| {
         format!(": in turn is {}", next.described())
     });
-    let hints = refusals(refused, &Vec::from_iter(next));
+    let between = between(line, letter, year).filter(|between| next != Some(*between));
+    let needed: Vec<Subject> = next.into_iter().chain(between).collect();
+    let hints = refusals(refused, &needed);
     Fault::at(format!("{why}{next_words}"), hints)
 }
 

@@ -88,6 +88,20 @@ fn question_10_has_what_is_in_turn() {
     check_record(&before, &pattern(2017), 10, &[open]);
 }
 
+/// A PATT that was refused shows in the YEAR of a later year too, also while no
+/// year is closed.
+#[test]
+fn question_10_of_a_year_has_the_refused_pattern_before_it() {
+    let (first, second) = (rate(2015, 5), rate(2016, 5));
+    let pattern = "PATT J 2015 50 100 90 100";
+    let refused = "PATT J 2016 50 100 101 100";
+    let before = ["LINE J 0", &first, &second, pattern, refused];
+    let year = format!("YEAR J 2016 {}", repeated("0", 9));
+    let hint = "Hint: PATT J 2016 was refused in line 5, with NO 11: mend that first";
+    let open = "of 2015, which is not closed: in turn is YEAR J 2015";
+    check_record(&before, &year, 10, &[open, hint]);
+}
+
 /// A declared line J with a rate of 2015.
 fn declared() -> [String; 2] {
     ["LINE J 0".to_string(), rate(2015, 5)]
