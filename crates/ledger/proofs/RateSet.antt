@@ -29,10 +29,11 @@ use Rattle.refusal.specs.declared.Refusal.{Refusal}
 use Rattle.refusal.specs.declared.Refusal.the-variants as refusal
 use Rattle.ledger.specs.declared.answer.Answer.the-variants as answer
 use Rattle.ledger.specs.declared.answer.Outcome.{Outcome}
-use Rattle.state.specs.declared.rates.YearRate.{YearRate}
-use Rattle.state.specs.declared.rates.YearRate.the-variants as year-rate
+use Rattle.year_rates.specs.declared.rates.YearRate.{YearRate}
+use Rattle.year_rates.specs.declared.rates.YearRate.the-variants as year-rate
+use Rattle.year_rates.specs.Rates.{yearRate}
 use Rattle.state.specs.Hints.{withHintOf}
-use Rattle.state.specs.Rates.{ratesOf, yearRate, withRateOf}
+use Rattle.state.specs.Rates.{ratesOf, withRateOf}
 use Rattle.state.specs.Store.{size}
 use Rattle.state.specs.View.{view}
 use Rattle.ledger.specs.Answer.{refusedOf, acceptedOf}

@@ -25,9 +25,10 @@ use Rattle.state.specs.declared.lines.Line.{Line}
 use Rattle.refusal.specs.declared.Refusal.{Refusal}
 use Rattle.refusal.specs.declared.Refusal.the-variants as refusal
 use Rattle.ledger.specs.declared.answer.Outcome.{Outcome}
-use Rattle.state.specs.declared.rates.YearRate.{YearRate}
-use Rattle.state.specs.declared.rates.YearRate.the-variants as year-rate
-use Rattle.state.specs.Rates.{ratesOf, yearRate}
+use Rattle.year_rates.specs.declared.rates.YearRate.{YearRate}
+use Rattle.year_rates.specs.declared.rates.YearRate.the-variants as year-rate
+use Rattle.year_rates.specs.Rates.{yearRate}
+use Rattle.state.specs.Rates.{ratesOf}
 use Rattle.state.specs.Lines.{lineAt}
 use Rattle.state.specs.View.{view}
 use Rattle.ledger.specs.Answer.{refusedOf}

@@ -1,6 +1,6 @@
--- The rate places: as code reads one, and that a store into one is the model's `put`.
+-- The rate places: where a year stands, and that a store into a place is the model's `put`.
 -- Assumes nothing.
-use mathlib.Core.Path.{_≡_, refl, sym, ap, _∙_, fun-ext}
+use mathlib.Core.Path.{_≡_, refl, sym, _∙_, fun-ext}
 use mathlib.Core.Bool.{Bool, true, false, false≢true}
 use mathlib.Core.List.{List}
 use mathlib.Core.Option.{none, some}
@@ -15,11 +15,6 @@ use mir.Val.{Fits}
 use Rattle.model.specs.Basics.{if_then_else_, put}
 use Rattle.model.specs.Kind.{isYear}
 use Rattle.model.proofs.Lists.{and-left, and-right}
-use Rattle.kinds.specs.Rate.{maybeRate, rateNumber}
-use Rattle.kinds.specs.declared.rate.Rate.{Rate}
-use Rattle.kinds.specs.declared.rate.MaybeRate.{MaybeRate}
-use Rattle.kinds.specs.declared.rate.MaybeRate.the-variants.{Within, Outside}
-use Rattle.kinds.proofs.Within.{rate-within, rate-outside}
 use Rattle.state.specs.Rates.{rateIn, ratesOf}
 
 -- a year and its place
@@ -32,24 +27,6 @@ module _ (year : ℕ) (e : isYear year ≡ true) where
 
   pub place-fits : Fits w64 ((year - 1987) * 2)
   place-fits = record { fits = omega (arith, year-place) }
-
--- what code reads at a year: x is what the constructor answers of its place
-module _ (places : List ℕ) (year : ℕ) (t : Bool) (et : t ≡ isYear year) where
-  pub no-year : t ≡ false → none ≡ ratesOf places year
-  unfolding ratesOf
-  no-year e = rw (← et, e)
-
-  module _ (e : t ≡ true) (x : MaybeRate) (ex : x ≡ maybeRate (getD places (year - 1987) 0)) where
-    abbrev n : ℕ
-    n = getD places (year - 1987) 0
-
-    pub given-rate : (v : Rate) → x ≡ Within v → some (rateNumber v) ≡ ratesOf places year
-    unfolding ratesOf
-    given-rate v ev = rw (← et, e, rate-within n x ex v ev .0) (ap some (rate-within n x ex v ev .1))
-
-    pub missing-rate : x ≡ Outside → none ≡ ratesOf places year
-    unfolding ratesOf
-    missing-rate eo = rw (← et, e, rate-outside n x ex eo)
 
 -- a store, seen at any year
 module _ (places : List ℕ) (year rate : ℕ) (l : length places ≡ 113) (e : isYear year ≡ true) (le : rate ≤ 2500) where

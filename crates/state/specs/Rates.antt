@@ -6,10 +6,7 @@ use Prim.Native.Nat.{ℕ, _-_}
 use lib.ListN.{getD, set}
 use Rattle.model.specs.Basics.{if_then_else_}
 use Rattle.model.specs.Kind.{isRate, isYear}
-use Rattle.kinds.specs.Rate.{rateNumber}
 use Rattle.state.specs.declared.book.Book.{Book}
-use Rattle.state.specs.declared.rates.YearRate.{YearRate}
-use Rattle.state.specs.declared.rates.YearRate.the-variants.{Given, Missing}
 
 -- what a rate place holds: what is no rate is the empty mark
 abbrev pub rateIn : ℕ → Option ℕ
@@ -18,11 +15,6 @@ rateIn n = if isRate n then some n else none
 -- each year's rate
 unfoldable pub ratesOf : List ℕ → ℕ → Option ℕ
 ratesOf places year = if isYear year then rateIn (getD places (year - 1987) 0) else none
-
--- the rate of an accident year, as code answers it
-abbrev pub yearRate : YearRate → Option ℕ
-yearRate (Given rate) = some (rateNumber rate)
-yearRate Missing = none
 
 -- the book with a year's rate: as it was, where the year has no place
 abbrev pub withRateOf : Book → ℕ → ℕ → Book

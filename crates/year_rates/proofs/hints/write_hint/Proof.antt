@@ -1,9 +1,9 @@
--- `state::hints::write_hint` meets its contract. Assumes nothing.
+-- `year_rates::hints::write_hint` meets its contract. Assumes nothing.
 use borrow.Author.Needs.{needs}
 use mathlib.Core.Path.{sym, _∙_}
-use Rattle.state.proofs.HintPieces.{hint-kept, hint-left}
-use Rattle.state.proofs.hints.write_hint.Statement.{statement}
-use Rattle.state.proofs.hints.write_hint.Tie as tie
+use Rattle.year_rates.proofs.HintKept.{hint-kept, hint-left}
+use Rattle.year_rates.proofs.hints.write_hint.Statement.{statement}
+use Rattle.year_rates.proofs.hints.write_hint.Tie as tie
 
 is-year-requires : tie.Need-is-year-requires
 is-year-requires c κs = search needs

@@ -1,9 +1,9 @@
--- `state::hints::hint_of` meets its contract. Assumes nothing.
+-- `year_rates::hints::hint_of` meets its contract. Assumes nothing.
 use borrow.Author.Needs.{needs}
 use mathlib.Core.Path.{sym, _∙_}
-use Rattle.state.proofs.HintPieces.{hint-read, no-hint}
-use Rattle.state.proofs.hints.hint_of.Statement.{statement}
-use Rattle.state.proofs.hints.hint_of.Tie as tie
+use Rattle.year_rates.proofs.HintKept.{hint-read, no-hint}
+use Rattle.year_rates.proofs.hints.hint_of.Statement.{statement}
+use Rattle.year_rates.proofs.hints.hint_of.Tie as tie
 
 is-year-requires : tie.Need-is-year-requires
 is-year-requires c κs = search needs

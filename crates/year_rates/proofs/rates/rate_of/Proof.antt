@@ -1,9 +1,10 @@
--- `state::rates::rate_of` meets its contract. Assumes nothing.
+-- `year_rates::rates::rate_of` meets its contract. Assumes nothing.
 use borrow.Author.Needs.{needs}
 use mathlib.Core.Path.{sym, _∙_}
-use Rattle.state.proofs.RatePlaces.{first-year, year-place, place-fits, given-rate, missing-rate, no-year}
-use Rattle.state.proofs.rates.rate_of.Statement.{statement}
-use Rattle.state.proofs.rates.rate_of.Tie as tie
+use Rattle.state.proofs.RatePlaces.{first-year, year-place, place-fits}
+use Rattle.year_rates.proofs.RateRead.{given-rate, missing-rate, no-year}
+use Rattle.year_rates.proofs.rates.rate_of.Statement.{statement}
+use Rattle.year_rates.proofs.rates.rate_of.Tie as tie
 
 is-year-requires : tie.Need-is-year-requires
 is-year-requires c κs = search needs

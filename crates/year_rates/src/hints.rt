@@ -1,15 +1,15 @@
 // The half-year factor of a year's rate, kept where the rate is given. It is a hint and no part of the book: whoever takes it asks first whether it is right.
-use crate::store::HINTS_START;
-use crate::store::Store;
 use kinds::year::Year;
 use kinds::year::is_year;
+use state::store::HINTS_START;
+use state::store::Store;
 ghost use mathlib.Core.Bool.{true};
 ghost use mathlib.Core.Path.{_≡_};
 ghost use Prim.Native.Nat.{_<_};
 ghost use lib.ListN.{length};
 ghost use Rattle.model.specs.Kind.{isYear};
 ghost use Rattle.state.specs.Store.{size};
 ghost use Rattle.state.specs.Hints.{hintStart, hintAt, withHintOf};
 
 // Where the hint of a year stands.
 fn hint_start(year: u64) -> usize

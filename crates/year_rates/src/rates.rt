@@ -1,12 +1,13 @@
 // The rate places, one for each year from 1987 to 2099.
-use crate::book::Book;
 use kinds::rate::MaybeRate;
 use kinds::rate::Rate;
 use kinds::year::Year;
 use kinds::year::is_year;
+use state::book::Book;
 ghost use mathlib.Core.Path.{_≡_};
 ghost use Rattle.kinds.specs.Rate.{rateNumber};
-ghost use Rattle.state.specs.Rates.{ratesOf, yearRate, withRateOf};
+ghost use Rattle.state.specs.Rates.{ratesOf, withRateOf};
+ghost use Rattle.year_rates.specs.Rates.{yearRate};
 
 // The rate of an accident year, or that none was given.
 pub enum YearRate {

@@ -1,11 +1,11 @@
--- `state::rates::with_rate` meets its contract. Assumes nothing.
+-- `year_rates::rates::with_rate` meets its contract. Assumes nothing.
 use mathlib.Core.Bool.{true, false}
 use mathlib.Core.Path.{_≡_, sym, _∙_}
 use borrow.Author.Needs.{needs}
 use Rattle.model.specs.Kind.{isYear}
 use Rattle.state.proofs.RatePlaces.{first-year, year-place, place-fits}
-use Rattle.state.proofs.rates.with_rate.Statement.{statement}
-use Rattle.state.proofs.rates.with_rate.Tie as tie
+use Rattle.year_rates.proofs.rates.with_rate.Statement.{statement}
+use Rattle.year_rates.proofs.rates.with_rate.Tie as tie
 
 is-year-requires : tie.Need-is-year-requires
 is-year-requires c κs = search needs

@@ -1,9 +1,9 @@
--- `state::hints::hint_start` meets its contract. Assumes nothing.
+-- `year_rates::hints::hint_start` meets its contract. Assumes nothing.
 use borrow.Author.Needs.{needs}
 use Rattle.state.proofs.RatePlaces.{first-year}
-use Rattle.state.proofs.HintPieces.{hint-inside}
-use Rattle.state.proofs.hints.hint_start.Statement.{statement}
-use Rattle.state.proofs.hints.hint_start.Tie as tie
+use Rattle.year_rates.proofs.HintKept.{hint-inside}
+use Rattle.year_rates.proofs.hints.hint_start.Statement.{statement}
+use Rattle.year_rates.proofs.hints.hint_start.Tie as tie
 
 sub-result : tie.Need-sub-result
 sub-result c = search first-year

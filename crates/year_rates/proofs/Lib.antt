@@ -1,0 +1,2 @@
+pub mod HintKept
+pub mod RateRead
