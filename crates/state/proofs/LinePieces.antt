@@ -4,11 +4,10 @@ use mathlib.Core.Bool.{Bool, true, false}
 use mathlib.Core.List.{List}
 use mathlib.Core.Logic.{⊎-elim}
 use mathlib.Core.Path.{_≡_, refl, _∙_}
-use Prim.Native.Nat.{ℕ, _+_, _*_, _≤_, _<_}
+use Prim.Native.Nat.{ℕ, _+_, _-_, _*_, _≤_, _<_}
 use native.Mathlib.Omega.{arith}
-use native.Mathlib.Nat.{add-zero}
 use lib.Dec.{ltb}
-use lib.ListN.{length, getD}
+use lib.ListN.{length, take, drop}
 use Rattle.model.specs.Basics.{if_then_else_}
 use Rattle.model.specs.Letter.{covered}
 use Rattle.state.specs.declared.lines.Line.{Line}
@@ -21,13 +20,11 @@ use Rattle.state.proofs.Pieces.{first-or-later}
 
 -- as code reads a line
 module _ (store : List ℕ) (letter : ℕ) (t : Bool) (et : t ≡ covered letter) where
-  pub line-read : t ≡ true → (at : ℕ) → at ≡ lineStart letter
-      → (line : Line) → line ≡ limitedOf letter (record { declared = ltb 0 (getD store at 0); opening = getD store (at + 1) 0; closed = getD store (at + 2) 0; closing = getD store (at + 3) 0; last = getD store (at + 4) 0; kept = getD store (at + 5) 0 })
-      → line ≡ lineAt store letter
-  unfolding lineAt
-  line-read c at e line el =
-      let cell : (j : ℕ) → j < 6 → getD (piece store at 6) j 0 ≡ getD store (at + j) 0 = pieces.cell store at 6 in
-      rw (← et, c, ← e, cell 0 (omega arith), add-zero at, cell 1 (omega arith), cell 2 (omega arith), cell 3 (omega arith), cell 4 (omega arith), cell 5 (omega arith)) el
+  pub line-read : t ≡ true → (at : ℕ) → at ≡ lineStart letter → (line : Line) → line ≡ lineIn (take (at + 6 - at) (drop at store)) → (read : Line) → read ≡ limitedOf letter line → read ≡ lineAt store letter
+  unfolding lineAt piece
+  line-read c at ea line el read er =
+      let six : at + 6 - at ≡ 6 = omega arith in
+      rw (er, el, six, ea, ← et, c)
 
   pub no-line-read : t ≡ false → noLine ≡ lineAt store letter
   unfolding lineAt

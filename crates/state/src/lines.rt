@@ -2,12 +2,13 @@
 use crate::cells::line_start;
 use crate::cells::write;
 use crate::limits::limited;
+use crate::store::LINE_CELLS;
 use crate::store::Store;
 use letters::letter::is_covered;
 ghost use mathlib.Core.Path.{_≡_};
 ghost use lib.ListN.{length};
 ghost use Rattle.state.specs.Store.{size};
-ghost use Rattle.state.specs.Lines.{lineAt, cellsOf, withLineOf};
+ghost use Rattle.state.specs.Lines.{lineIn, lineAt, cellsOf, withLineOf};
 
 pub struct Line {
     pub declared: bool,
@@ -28,15 +29,8 @@ pub fn line_of(store: &Store, letter: u8) -> Line
 {
     if is_covered(letter) {
         let at = line_start(letter);
-        let mark = store[at];
-        let line = Line {
-            declared: mark > 0,
-            opening: store[at + 1],
-            closed: store[at + 2],
-            closing: store[at + 3],
-            last: store[at + 4],
-            kept: store[at + 5],
-        };
+        let cells = &store[..];
+        let line = line_in(&cells[at..at + LINE_CELLS]);
         return limited(letter, line);
     }
     Line {
@@ -46,6 +40,22 @@ pub fn line_of(store: &Store, letter: u8) -> Line
         closing: 0,
         last: 0,
         kept: 0,
+    }
+}
+
+// The line of six cells, as they are.
+fn line_in(cells: &[u64]) -> Line
+    requires { ⌜ length (now cells) ≡ 6 ⌝ }
+    ensures { λ r. ⌜ r ≡ lineIn (now (cells .entry)) ⌝ }
+{
+    let mark = cells[0];
+    Line {
+        declared: mark > 0,
+        opening: cells[1],
+        closed: cells[2],
+        closing: cells[3],
+        last: cells[4],
+        kept: cells[5],
     }
 }
 

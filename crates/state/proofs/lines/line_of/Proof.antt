@@ -11,56 +11,23 @@ is-covered-requires c κs = search needs
 line-start-requires : tie.Need-line-start-requires
 line-start-requires c κs = sym (c .before .is-covered .ensures) ∙ c .if1 .taken
 
-mul-mark : tie.Need-mul-mark
-mul-mark c = search needs
+add-line-in : tie.Need-add-line-in
+add-line-in c = search needs
 
-element-copy-out-mark : tie.Need-element-copy-out-mark
-element-copy-out-mark c = search needs
+mul-line-in : tie.Need-mul-line-in
+mul-line-in c = search needs
 
-add-t7 : tie.Need-add-t7
-add-t7 c = search needs
+sub-line-in : tie.Need-sub-line-in
+sub-line-in c = search needs
 
-mul-t12 : tie.Need-mul-t12
-mul-t12 c = search needs
+part-line-in-start : tie.Need-part-line-in-start
+part-line-in-start c = search needs
 
-element-copy-out-t10 : tie.Need-element-copy-out-t10
-element-copy-out-t10 c = search needs
+part-line-in-end : tie.Need-part-line-in-end
+part-line-in-end c = search needs
 
-add-t15 : tie.Need-add-t15
-add-t15 c = search needs
-
-mul-t16 : tie.Need-mul-t16
-mul-t16 c = search needs
-
-element-copy-out-t19 : tie.Need-element-copy-out-t19
-element-copy-out-t19 c = search needs
-
-add-t20 : tie.Need-add-t20
-add-t20 c = search needs
-
-mul-t21 : tie.Need-mul-t21
-mul-t21 c = search needs
-
-element-copy-out-t24 : tie.Need-element-copy-out-t24
-element-copy-out-t24 c = search needs
-
-add-t25 : tie.Need-add-t25
-add-t25 c = search needs
-
-mul-t26 : tie.Need-mul-t26
-mul-t26 c = search needs
-
-element-copy-out-t29 : tie.Need-element-copy-out-t29
-element-copy-out-t29 c = search needs
-
-add-t30 : tie.Need-add-t30
-add-t30 c = search needs
-
-mul-t31 : tie.Need-mul-t31
-mul-t31 c = search needs
-
-element-copy-out-t34 : tie.Need-element-copy-out-t34
-element-copy-out-t34 c = search needs
+line-in-requires : tie.Need-line-in-requires
+line-in-requires c κs = search needs
 
 limited-requires : tie.Need-limited-requires
 limited-requires c κs = search needs
@@ -77,23 +44,12 @@ line-of-spec =
     (tie.spec
     is-covered-requires
     line-start-requires
-    mul-mark
-    element-copy-out-mark
-    add-t7
-    mul-t12
-    element-copy-out-t10
-    add-t15
-    mul-t16
-    element-copy-out-t19
-    add-t20
-    mul-t21
-    element-copy-out-t24
-    add-t25
-    mul-t26
-    element-copy-out-t29
-    add-t30
-    mul-t31
-    element-copy-out-t34
+    add-line-in
+    mul-line-in
+    sub-line-in
+    part-line-in-start
+    part-line-in-end
+    line-in-requires
     limited-requires
     returns
     returns-2)
