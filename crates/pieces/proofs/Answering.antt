@@ -48,14 +48,15 @@ module _ (book : Book) (store : List ℕ) where
         puts = rw (← (ap (λ (s : Progress). s .written) cut)) (a .puts);
       }
 
--- where no line was begun, the line is the rest
-pub not-begun : (book : Book) (store begun rest out : List ℕ) (at : ℕ) (r : Answered) (laterStore laterOut : List ℕ) → length begun ≡ 0 → Answers book store rest out at r laterStore laterOut → Answers book store (begun ++ rest) out at r laterStore laterOut
-not-begun book store [] rest out at r laterStore laterOut e a = a
-not-begun book store (b ∷ begun) rest out at r laterStore laterOut e a = absurd (omega arith)
+-- an open line, by as many bytes as it has
+pub answers-open : (book : Book) (store : List ℕ) (line : OpenLine) (n : ℕ) → n ≡ length (bytesOf line)
+    → (out : List ℕ) (at : ℕ) (r : Answered) (laterStore laterOut : List ℕ) → Answers book store (take n (line .bytes)) out at r laterStore laterOut → Answers book store (bytesOf line) out at r laterStore laterOut
+answers-open book store line n e out at r laterStore laterOut a =
+    let whole : take n (line .bytes) ≡ bytesOf line = rw e (same-front (line .bytes) (line .count)) in
+    rw (← whole) a
 
 -- a line of two parts
-pub answers-joined : (book : Book) (store begun rest : List ℕ) (line : OpenLine) → line ≡ openLine (take 1025 (begun ++ rest)) → (n : ℕ) → n ≡ length (bytesOf line)
-    → (out : List ℕ) (at : ℕ) (r : Answered) (laterStore laterOut : List ℕ) → Answers book store (take n (line .bytes)) out at r laterStore laterOut → Answers book store (begun ++ rest) out at r laterStore laterOut
-answers-joined book store begun rest line joined n e out at r laterStore laterOut a =
-    let whole : take n (line .bytes) ≡ take 1025 (begun ++ rest) = rw e (same-front (line .bytes) (line .count)) ∙ open-bytes line (take 1025 (begun ++ rest)) joined in
-    answers-cut book store (begun ++ rest) out at r laterStore laterOut (rw (← whole) a)
+pub answers-joined : (book : Book) (store begun rest : List ℕ) (line : OpenLine) → line ≡ openLine (take 1025 (begun ++ rest))
+    → (out : List ℕ) (at : ℕ) (r : Answered) (laterStore laterOut : List ℕ) → Answers book store (bytesOf line) out at r laterStore laterOut → Answers book store (begun ++ rest) out at r laterStore laterOut
+answers-joined book store begun rest line joined out at r laterStore laterOut a =
+    answers-cut book store (begun ++ rest) out at r laterStore laterOut (rw (← (open-bytes line (take 1025 (begun ++ rest)) joined)) a)

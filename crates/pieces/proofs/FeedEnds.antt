@@ -9,7 +9,6 @@ use borrow.Author.Tests.{le-leb, lt-leb, leb-false}
 use lib.ListN.{length, take, drop, length-take, length-drop, take-append-drop, replicate}
 use lib.Seq.{take-length, take-take, take-all, drop-length}
 use Rattle.model.specs.Answer.{doneText}
-use Rattle.model.proofs.Lists.{true≢false}
 use Rattle.state.specs.declared.book.Book.{Book}
 use Rattle.state.specs.View.{emptyBook, emptyStore}
 use Rattle.bytes.specs.Bytes.{indexOf}
@@ -21,10 +20,10 @@ use Rattle.pieces.specs.declared.answer_line.Answered.{Answered}
 use Rattle.pieces.specs.declared.answer_lines.Lines.{Lines}
 use Rattle.pieces.specs.declared.feed.Run.{Run}
 use Rattle.pieces.specs.Progress.{Progress, ended, lengthened, takingAll, takenOf, atEnd}
-use Rattle.pieces.specs.Feed.{bytesOf, openLine, before, progressOf, IsStart, Answers, FedTo, AnswersLines, AnswersWholeLines, unanswered, Feeds, Closes, PutsDone}
+use Rattle.pieces.specs.Feed.{bytesOf, openLine, before, progressOf, IsStart, Answers, FedTo, AnswersLines, AnswersWholeLines, canAnswer, Feeds, Closes, PutsDone}
 use Rattle.pieces.proofs.LineFound.{line-taken, line-counted}
 use Rattle.pieces.proofs.Joining.{same-front, front-length}
-use Rattle.pieces.proofs.Feeding.{feed-start, feed-on, put-in, room-is, short}
+use Rattle.pieces.proofs.Feeding.{feed-start, feed-on, put-in, room-is, short, ends-inside, has-room-there, none-ends}
 use Rattle.pieces.proofs.Pieces.{pieces-join}
 use Rattle.pieces.proofs.Written.{at-end-some}
 
@@ -40,26 +39,23 @@ module _ (book : Book) (store begun piece out : List ℕ) (kept : length begun �
   pub none-begun : length begun ≡ 0 → (r : Lines) (laterStore laterOut : List ℕ) → AnswersWholeLines book store piece 0 out 0 r laterStore laterOut → AnswersLines book store begun piece out r laterStore laterOut
   none-begun z r laterStore laterOut w = record { fed = w .fed at-first begun out (rw z at started); over = w .over }
 
-  module _ (end : ℕ) (e : EndsAt piece 0 end) where
-    pub end-inside : end < length piece → end ≡ length (take end piece)
-    end-inside lt = front-length end piece (omega arith)
+  module _ (end : ℕ) (e : EndsAt piece 0 end) (t : Bool) (told : t ≡ canAnswer piece end out 0) where
+    pub end-exact : t ≡ true → end ≡ length (take end piece)
+    end-exact can = front-length end piece (omega (arith, ends-inside piece end out 0 t told can))
 
     -- it ends in the piece
-    pub first-joined : (t : Bool) → t ≡ hasRoom out 0 → t ≡ true → end < length piece → (a : Answered) (middleStore middleOut : List ℕ) → length middleOut ≡ length out → Answers book store (begun ++ take end piece) out 0 a middleStore middleOut
+    pub first-joined : t ≡ true → (a : Answered) (middleStore middleOut : List ℕ) → length middleOut ≡ length out → Answers book store (begun ++ take end piece) out 0 a middleStore middleOut
         → (r : Lines) (laterStore laterOut : List ℕ) → AnswersWholeLines (a .book) middleStore piece (end + 1) middleOut (a .next) r laterStore laterOut → AnswersLines book store begun piece out r laterStore laterOut
-    first-joined t told is-room lt a middleStore middleOut same answered r laterStore laterOut w =
+    first-joined can a middleStore middleOut same answered r laterStore laterOut w =
         let all : end - 0 ≡ end = omega arith in
-        let fed = feed-on at-first begun piece out book (length begun) 0 0 store out started t told is-room end e lt a middleStore middleOut same (rw (take-length begun, all) answered) in
+        let lt = ends-inside piece end out 0 t told can in
+        let room = has-room-there piece end out 0 t told can in
+        let fed = feed-on at-first begun piece out book (length begun) 0 0 store out started room end e lt a middleStore middleOut same (rw (take-length begun, all) answered) in
         record { fed = w .fed at-first begun out fed; over = w .over }
 
-    module _ (r : Lines) (er : r ≡ unanswered book begun) where
-      -- or no byte 10 is there
-      pub lines-over : length piece ≤ end → AnswersLines book store begun piece out r store out
-      lines-over ge = rw er record { fed = started; over = λ (room : hasRoom out 0 ≡ true). omega (arith, e .place, e .within) }
-
-      -- or no room
-      pub lines-full : (t : Bool) → t ≡ hasRoom out 0 → t ≡ false → AnswersLines book store begun piece out r store out
-      lines-full t told no-room = rw er record { fed = started; over = λ (room : hasRoom out 0 ≡ true). absurd (true≢false (sym room ∙ sym told ∙ no-room)) }
+    -- or not, or no text has room
+    pub none-joined : t ≡ false → AnswersLines book store begun piece out (record { book = book; begun = length begun; at = 0; put = 0 }) store out
+    none-joined cannot = record { fed = started; over = λ (room : hasRoom out 0 ≡ true). omega (arith, none-ends piece end out 0 t told cannot room, e .place, e .within) }
 
 none-taken : (size : ℕ) (s : Progress) (rest : List ℕ) → size < length (s .written) + 320 → takenOf size s rest ≡ 0
 unfolding takenOf
@@ -95,21 +91,10 @@ module _ (run : Run) (store piece out : List ℕ) (n : ℕ) (e : n ≡ length (b
       let less : r .begun ≤ n = omega (arith, a .fed .few, length-take n (run .line .bytes)) in
       sym (take-take (r .begun) n (run .line .bytes) less) ∙ a .fed .line
 
-  pub feeds-full : (t : Bool) → t ≡ hasRoom laterOut (r .put) → t ≡ false → (kept : OpenLine) → kept ≡ openLine (take 1025 (bytes ++ take 0 piece))
-      → Feeds run store piece out (record { run = record { book = r .book; line = kept }; taken = r .at; put = r .put }) laterStore laterOut
-  feeds-full t told no-room kept l =
-      let full : hasRoom laterOut (r .put) ≡ false = sym told ∙ no-room in
-      let all-kept : length bytes ≤ 1025 = rw (length-take (r .begun) (run .line .bytes)) (omega (arith, a .fed .few, a .fed .kept)) in
-      let less : length out < length (s .written) + 320 = omega (arith, leb-false (r .put + 320) (length laterOut) full, a .fed .reached .puts .after-it, a .fed .same) in
-      record {
-        taken = rw (← line) (sym (a .fed .left ∙ rw (none-taken (length out) s rest less) (omega arith)));
-        reached = rw (← line) (a .fed .reached);
-        unended = l ∙ rw (← line, append-nil bytes, take-all 1025 bytes all-kept, still-open);
-      }
-
-  module _ (t : Bool) (told : t ≡ hasRoom laterOut (r .put)) (yes : t ≡ true) where
+  -- the longest text has room: all of the piece is taken
+  module _ (t : Bool) (told : t ≡ hasRoom laterOut (r .put)) (is-room : t ≡ true) (taken : ℕ) (et : taken ≡ length piece) where
     room : hasRoom laterOut (r .put) ≡ true
-    room = sym told ∙ yes
+    room = sym told ∙ is-room
 
     all : indexOf 10 rest ≡ length rest
     all = a .over room
@@ -128,20 +113,34 @@ module _ (run : Run) (store piece out : List ℕ) (n : ℕ) (e : n ≡ length (b
         let split : piece ≡ take (r .at) piece ++ rest = sym (take-append-drop (r .at) piece) in
         rw (take-length piece) (ap (takingAll start) split ∙ pieces-join start (take (r .at) piece) rest ∙ rest-taken)
 
-    pub feeds-room : (longer : OpenLine) → longer ≡ openLine (take 1025 (bytes ++ take (length piece - r .at) rest))
-        → Feeds run store piece out (record { run = record { book = r .book; line = longer }; taken = length piece; put = r .put }) laterStore laterOut
+    pub feeds-room : (longer : OpenLine) → longer ≡ openLine (take 1025 (bytes ++ take (taken - r .at) rest))
+        → Feeds run store piece out (record { run = record { book = r .book; line = longer }; taken = taken; put = r .put }) laterStore laterOut
     unfolding lengthened takenOf
     feeds-room longer l =
         let none : drop (indexOf 10 rest) rest ≡ [] = rw all (drop-length rest) in
         let counted : takenOf (length out) s rest ≡ indexOf 10 rest + takenOf (length out) (lengthened s (take (indexOf 10 rest) rest)) (drop (indexOf 10 rest) rest) =
         line-counted (length out) rest s line-short (room-is _ _ _ _ _ _ _ _ _ _ (a .fed) room) in
         let none-left : takenOf (length out) s rest ≡ length rest = counted ∙ rw (none, all) (omega arith) in
-        let all-bytes : take (length piece - r .at) rest ≡ rest = take-all (length piece - r .at) rest (omega (arith, length-drop (r .at) piece)) in
+        let all-bytes : take (taken - r .at) rest ≡ rest = rw et (take-all (length piece - r .at) rest (omega (arith, length-drop (r .at) piece))) in
         record {
-          taken = rw (← line) (sym (a .fed .left ∙ rw none-left (omega (arith, a .fed .inside, length-drop (r .at) piece))));
-          reached = rw (← line, whole) (record { later = a .fed .reached .later; own = a .fed .reached .own; lent = a .fed .reached .lent; puts = a .fed .reached .puts });
-          unended = l ∙ rw (← line, whole, all-bytes, still-open);
+          taken = rw (et, ← line) (sym (a .fed .left ∙ rw none-left (omega (arith, a .fed .inside, length-drop (r .at) piece))));
+          reached = rw (et, ← line, whole) (record { later = a .fed .reached .later; own = a .fed .reached .own; lent = a .fed .reached .lent; puts = a .fed .reached .puts });
+          unended = l ∙ rw (all-bytes, et, ← line, whole, still-open);
         }
+
+  -- or not: the bytes up to the last line's end are taken
+  pub feeds-full : (t : Bool) → t ≡ hasRoom laterOut (r .put) → t ≡ false → (taken : ℕ) → taken ≡ r .at → (kept : OpenLine) → kept ≡ openLine (take 1025 (bytes ++ take (taken - r .at) rest))
+      → Feeds run store piece out (record { run = record { book = r .book; line = kept }; taken = taken; put = r .put }) laterStore laterOut
+  feeds-full t told no-room taken et kept l =
+      let full : hasRoom laterOut (r .put) ≡ false = sym told ∙ no-room in
+      let none : taken - r .at ≡ 0 = omega (arith, et) in
+      let all-kept : length bytes ≤ 1025 = rw (length-take (r .begun) (run .line .bytes)) (omega (arith, a .fed .few, a .fed .kept)) in
+      let less : length out < length (s .written) + 320 = omega (arith, leb-false (r .put + 320) (length laterOut) full, a .fed .reached .puts .after-it, a .fed .same) in
+      record {
+        taken = rw (et, ← line) (sym (a .fed .left ∙ rw (none-taken (length out) s rest less) (omega arith)));
+        reached = rw (et, ← line) (a .fed .reached);
+        unended = l ∙ rw (none, et, ← line, append-nil bytes, take-all 1025 bytes all-kept, still-open);
+      }
 
 empty-list : (l : List ℕ) → length l ≡ 0 → l ≡ []
 empty-list [] z = refl
@@ -170,19 +169,11 @@ module _ (run : Run) (store out : List ℕ) (begun : ℕ) (n : begun ≡ length 
       let none : bytesOf (run .line) ≡ [] = empty-list (bytesOf (run .line)) (omega (arith, n, z)) in
       record { reached = rw none (record { later = refl; own = refl; lent = refl; puts = record { whole = refl; after-it = refl } }) }
 
-  pub closes-line : (begun ≡ 0 → ⊥) → (r : Answered) (laterStore laterOut : List ℕ) → length out ≡ 65536 → Answers (run .book) store (take begun (run .line .bytes)) out 0 r laterStore laterOut → Closes run store out r laterStore laterOut
+  pub closes-line : (begun ≡ 0 → ⊥) → (r : Answered) (laterStore laterOut : List ℕ) → length out ≡ 65536 → Answers (run .book) store (bytesOf (run .line)) out 0 r laterStore laterOut → Closes run store out r laterStore laterOut
   unfolding ended
   closes-line nz r laterStore laterOut size a =
-      let line : take begun (run .line .bytes) ≡ bytesOf (run .line) = rw n (same-front (run .line .bytes) (run .line .count)) in
       let ends : atEnd (progressOf run store) ≡ ended (progressOf run store) = at-end-line (progressOf run store) (λ (z : length (bytesOf (run .line)) ≡ 0). nz (n ∙ z)) in
-      record {
-        reached = rw ends (record {
-          later = a .later ∙ rw line;
-          own = a .own ∙ rw line;
-          lent = a .lent ∙ rw line;
-          puts = put-first out _ laterOut (r .next) size (rw (← line) (a .puts));
-        });
-      }
+      record { reached = rw ends (record { later = a .later; own = a .own; lent = a .lent; puts = put-first out _ laterOut (r .next) size (a .puts) }) }
 
 -- and DONE
 pub puts-done : (book : Book) (out laterOut : List ℕ) (put : ℕ) → length out ≡ 65536 → PutsWithRoom out 0 (doneText (book .accepted) (book .refused)) laterOut put → PutsDone book out put laterOut

@@ -2,10 +2,11 @@
 -- Assumes nothing.
 use mathlib.Core.List.{List, [], _∷_, _++_}
 use mathlib.Core.Path.{_≡_, refl, sym, ap, _∙_}
-use mathlib.Core.Bool.{Bool, true, false}
+use mathlib.Core.Bool.{Bool, true, false, _&&_}
 use Prim.Native.Nat.{ℕ, suc, _+_, _-_, _≤_, _<_}
 use native.Mathlib.Omega.{arith}
-use borrow.Author.Tests.{leb-true}
+use borrow.Author.Tests.{leb-true, ltb-true, ltb-false}
+use lib.Dec.{ltb}
 use lib.ListN.{length, take, drop, length-take, length-drop}
 use lib.Seq.{take-length, take-add, drop-drop}
 use Rattle.state.specs.declared.book.Book.{Book}
@@ -14,17 +15,10 @@ use Rattle.line_end.specs.Scan.{EndsAt}
 use Rattle.answer.specs.Put.{placed, Puts}
 use Rattle.answer.specs.Text.{hasRoom, PutsWithRoom}
 use Rattle.answer.proofs.Joins.{joined}
-use Rattle.model.specs.Answer.{text}
-use Rattle.model.specs.Step.{asBytes}
 use Rattle.model.proofs.Lists.{true≢false}
-use Rattle.ledger.specs.declared.answer.Outcome.{Outcome}
-use Rattle.ledger.specs.Answer.{answered}
-use Rattle.ledger.specs.Does.{Does}
 use Rattle.pieces.specs.declared.answer_line.Answered.{Answered}
-use Rattle.pieces.specs.declared.answer_lines.Lines.{Lines}
 use Rattle.pieces.specs.Progress.{Progress, ended, lengthened, taking, takingAll, takenOf}
-use Rattle.pieces.specs.Feed.{before, Answers, FedTo, AnswersWholeLines}
-use Rattle.pieces.proofs.Answering.{answers}
+use Rattle.pieces.specs.Feed.{before, Answers, FedTo, AnswersWholeLines, canAnswer}
 use Rattle.pieces.proofs.Cut.{with-line, ended-cut}
 use Rattle.pieces.proofs.LineFound.{line-taken, line-counted, takes-one, same-room, found}
 use Rattle.pieces.proofs.Joining.{front-length}
@@ -76,10 +70,7 @@ module _ (start : Progress) (begun piece out : List ℕ) (book : Book) (count at
       let split : take end piece ≡ take at piece ++ take (end - at) rest = ap (λ (k : ℕ). take k piece) parts ∙ take-add at (end - at) piece in
       rw split (pieces-join start (take at piece) (take (end - at) rest))
 
-  module _ (t : Bool) (told : t ≡ hasRoom laterOut put) (yes : t ≡ true) (end : ℕ) (e : EndsAt piece at end) where
-    room : hasRoom laterOut put ≡ true
-    room = sym told ∙ yes
-
+  module _ (room : hasRoom laterOut put ≡ true) (end : ℕ) (e : EndsAt piece at end) where
     here : end ≡ at + indexOf 10 rest
     here = e .place
 
@@ -136,42 +127,69 @@ module _ (start : Progress) (begun piece out : List ℕ) (book : Book) (count at
           left = rw (ended-here lt) (left-here lt);
         }
 
+-- what it says that a line can be answered, or not
+module _ (piece : List ℕ) (end : ℕ) (out : List ℕ) (put : ℕ) where
+  both-by : (a b : Bool) → ltb end (length piece) ≡ a → hasRoom out put ≡ b → a && b ≡ true → (end < length piece) × (hasRoom out put ≡ true)
+  both-by true true inside room e = (ltb-true end (length piece) inside, room)
+  both-by true false inside room e = absurd (true≢false (sym e))
+  both-by false b inside room e = absurd (true≢false (sym e))
+
+  both : (t : Bool) → t ≡ canAnswer piece end out put → t ≡ true → (end < length piece) × (hasRoom out put ≡ true)
+  both t told can = both-by (ltb end (length piece)) (hasRoom out put) refl refl (sym told ∙ can)
+
+  pub ends-inside : (t : Bool) → t ≡ canAnswer piece end out put → t ≡ true → end < length piece
+  ends-inside t told can = both t told can .0
+
+  pub next-inside : (t : Bool) → t ≡ canAnswer piece end out put → t ≡ true → end + 1 ≤ length piece
+  next-inside t told can = omega (arith, ends-inside t told can)
+
+  -- the next line's end is nearer to the piece's
+  pub nearer : (t : Bool) → t ≡ canAnswer piece end out put → t ≡ true → (later : ℕ) → EndsAt piece (end + 1) later → length piece - later < length piece - end
+  nearer t told can later e = omega (arith, ends-inside t told can, e .place)
+
+  pub has-room-there : (t : Bool) → t ≡ canAnswer piece end out put → t ≡ true → hasRoom out put ≡ true
+  has-room-there t told can = both t told can .1
+
+  over-by : (a : Bool) → ltb end (length piece) ≡ a → hasRoom out put ≡ true → a && hasRoom out put ≡ false → length piece ≤ end
+  over-by true inside room e = absurd (true≢false (sym room ∙ e))
+  over-by false inside room e = ltb-false end (length piece) inside
+
+  pub none-ends : (t : Bool) → t ≡ canAnswer piece end out put → t ≡ false → hasRoom out put ≡ true → length piece ≤ end
+  none-ends t told cannot room = over-by (ltb end (length piece)) refl room (sym told ∙ cannot)
+
 -- line after line from place `start` on: the next byte 10 is at `end`, or the piece ends there
-pub record Seeking (book : Book) (first piece : List ℕ) (start : ℕ) (out : List ℕ) (from : ℕ) (last : Book) (at put end : ℕ) (store laterOut : List ℕ) : Type 0 where
+pub record Seeking (begin : Answered) (first piece : List ℕ) (start : ℕ) (out : List ℕ) (last : Answered) (at end : ℕ) (store laterOut : List ℕ) : Type 0 where
   pub inside : at ≤ length piece
   pub same : length laterOut ≡ length out
-  pub fed : (s : Progress) (begun whole : List ℕ) → FedTo s begun piece whole book 0 start from first out → FedTo s begun piece whole last 0 at put store laterOut
+  pub fed : (s : Progress) (begun whole : List ℕ) → FedTo s begun piece whole (begin .book) 0 start (begin .next) first out → FedTo s begun piece whole (last .book) 0 at (last .next) store laterOut
   pub ends : EndsAt piece at end
 
-pub seek-start : (book : Book) (store piece : List ℕ) (start : ℕ) (out : List ℕ) (from : ℕ) → start ≤ length piece → (end : ℕ) → EndsAt piece start end
-    → Seeking book store piece start out from book start from end store out
-seek-start book store piece start out from le end e = record { inside = le; same = refl; fed = λ s begun whole f. f; ends = e }
+pub seek-start : (begin : Answered) (store piece : List ℕ) (start : ℕ) (out : List ℕ) → start ≤ length piece → (end : ℕ) → EndsAt piece start end
+    → Seeking begin store piece start out begin start end store out
+seek-start begin store piece start out le end e = record { inside = le; same = refl; fed = λ s begun whole f. f; ends = e }
 
-module _ (book : Book) (first piece : List ℕ) (start : ℕ) (out : List ℕ) (from : ℕ) (last : Book) (at put end : ℕ) (store laterOut : List ℕ) (k : Seeking book first piece start out from last at put end store laterOut) where
-  pub seek-on : (t : Bool) → t ≡ hasRoom laterOut put → t ≡ true → end < length piece → (outcome : Outcome) (laterStore : List ℕ) → Does last (asBytes (take (end - at) (drop at piece))) store outcome laterStore
-      → (lastOut : List ℕ) (next : ℕ) → PutsWithRoom laterOut put (text (answered (outcome .answer) laterStore)) lastOut next → length lastOut ≡ length laterOut
+module _ (begin : Answered) (first piece : List ℕ) (start : ℕ) (out : List ℕ) (last : Answered) (at end : ℕ) (store laterOut : List ℕ) (k : Seeking begin first piece start out last at end store laterOut) where
+  pub seek-on : (t : Bool) → t ≡ canAnswer piece end laterOut (last .next) → t ≡ true
+      → (r : Answered) (laterStore lastOut : List ℕ) → Answers (last .book) store (take (end - at) (drop at piece)) laterOut (last .next) r laterStore lastOut → length lastOut ≡ length laterOut
       → (later : ℕ) → EndsAt piece (end + 1) later
-      → Seeking book first piece start out from (outcome .book) (end + 1) next later laterStore lastOut
-  seek-on t told is-room lt outcome laterStore does lastOut next puts same later e =
+      → Seeking begin first piece start out r (end + 1) later laterStore lastOut
+  seek-on t told can r laterStore lastOut a same later e =
+      let lt = ends-inside piece end laterOut (last .next) t told can in
+      let room = has-room-there piece end laterOut (last .next) t told can in
       record {
-        inside = omega arith;
+        inside = omega (arith, lt);
         same = same ∙ k .same;
-        fed = λ s begun whole f.
-            feed-on s begun piece whole last 0 at put store laterOut (k .fed s begun whole f) t told is-room end (k .ends) lt (record { book = outcome .book; next = next }) laterStore lastOut same
-            (answers last store (take (end - at) (drop at piece)) laterOut put outcome laterStore lastOut next does puts);
+        fed = λ s begun whole f. feed-on s begun piece whole (last .book) 0 at (last .next) store laterOut (k .fed s begun whole f) room end (k .ends) lt r laterStore lastOut same a;
         ends = e;
       }
 
-  module _ (r : Lines) (er : r ≡ record { book = last; begun = 0; at = at; put = put }) where
-    -- no byte 10 is left
-    pub whole-over : length piece ≤ end → AnswersWholeLines book first piece start out from r store laterOut
-    whole-over ge =
-        rw er
-        record {
-          fed = k .fed;
-          over = λ (room : hasRoom laterOut put ≡ true). omega (arith, k .ends .place, k .ends .within, k .inside, length-drop at piece);
-        }
-
-    -- or no room
-    pub whole-full : (t : Bool) → t ≡ hasRoom laterOut put → t ≡ false → AnswersWholeLines book first piece start out from r store laterOut
-    whole-full t told no-room = rw er record { fed = k .fed; over = λ (room : hasRoom laterOut put ≡ true). absurd (true≢false (sym room ∙ sym told ∙ no-room)) }
+-- no line is left, or no room
+pub whole-lines : (book : Book) (first piece : List ℕ) (start : ℕ) (out : List ℕ) (from : ℕ) (last : Answered) (at end : ℕ) (store laterOut : List ℕ)
+    → Seeking (record { book = book; next = from }) first piece start out last at end store laterOut
+    → (t : Bool) → t ≡ canAnswer piece end laterOut (last .next) → t ≡ false
+    → AnswersWholeLines book first piece start out from (record { book = last .book; begun = 0; at = at; put = last .next }) store laterOut
+whole-lines book first piece start out from last at end store laterOut k t told cannot =
+    record {
+      fed = k .fed;
+      over = λ (room : hasRoom laterOut (last .next) ≡ true). omega (arith, none-ends piece end laterOut (last .next) t told cannot room, k .ends .place, k .ends .within, k .inside, length-drop at piece);
+    }

@@ -6,7 +6,7 @@ use mathlib.Core.Path.{_≡_, refl, sym, ap, _∙_}
 use Prim.Native.Nat.{ℕ, zero, suc, _+_, _-_, _≤_, _<_, min}
 use native.Mathlib.Nat.{eq-zero-or-pos}
 use native.Mathlib.Omega.{arith}
-use lib.ListN.{length, take, drop, getD, set, replicate, length-take, length-map}
+use lib.ListN.{length, take, drop, getD, set, replicate, length-take, length-map, length-replicate}
 use lib.Seq.{take-at, take-all, take-length, getD-take, length-take-le}
 use Rattle.answer.specs.Put.{placed, Puts}
 use Rattle.answer.proofs.Copying.{Copying, copy-start, copy-on, copy-end}
@@ -48,12 +48,6 @@ module _ (buffer : List ℕ) (at : ℕ) (text : List ℕ) where
         let all : i ≡ n = omega (arith, f .reached) in
         rw (← all) (copy-end buffer at part later i (f .copying) (omega (arith, part-length, f .least)))
 
-abbrev pub zeros : List ℕ
-zeros = replicate 1025 0
-
-all-zeros : length zeros ≡ 1025
-all-zeros = refl
-
 -- the front of two lists
 take-parts : (n : ℕ) (xs ys : List ℕ) → take n (xs ++ ys) ≡ take n xs ++ take (n - length (take n xs)) ys
 take-parts zero xs ys = refl
@@ -69,20 +63,32 @@ drop-same z zero m = let e : m - 0 ≡ m = omega arith in rw e
 drop-same z (suc n) zero = let e : 0 - suc n ≡ 0 = omega arith in rw e
 drop-same z (suc n) (suc m) = let e : suc m - suc n ≡ m - n = omega arith in rw e (drop-same z n m)
 
-pub two-parts : (begun more : List ℕ) (middle : List ℕ) (first : ℕ) → Puts zeros 0 (take (length zeros - 0) begun) middle first → length middle ≡ 1025
+-- two parts are put into so many zeros, for any number of them
+module _ (n : ℕ) where
+  abbrev zeros : List ℕ
+  zeros = replicate n 0
+
+  abbrev filled : List ℕ → OpenLine
+  filled line = record { bytes = line ++ replicate (n - length line) 0; count = length line }
+
+  parts-in : (begun more : List ℕ) (middle : List ℕ) (first : ℕ) → Puts zeros 0 (take (length zeros - 0) begun) middle first → length middle ≡ n
+      → (bytes : List ℕ) (count : ℕ) → Puts middle first (take (length middle - first) more) bytes count → record { bytes = bytes; count = count } ≡ filled (take n (begun ++ more))
+  unfolding placed
+  parts-in begun more middle first p same bytes count q =
+      let whole : length zeros - 0 ≡ n = omega (arith, length-replicate {A = ℕ} n 0) in
+      let start : List ℕ = take (length zeros - 0) begun in
+      let rest : List ℕ = take (length middle - first) more in
+      let both = joined zeros 0 start (omega arith) rest middle first p bytes count q in
+      let left : length middle - first ≡ n - length (take n begun) = omega (arith, p .after-it, same, ap (λ (k : ℕ). length (take k begun)) whole) in
+      let parts : start ++ rest ≡ take n (begun ++ more) = rw (whole, left) (sym (take-parts n begun more)) in
+      let none : 0 + length (start ++ rest) ≡ length (start ++ rest) = omega arith in
+      let text : bytes ≡ (start ++ rest) ++ replicate (n - length (start ++ rest)) 0 = both .whole ∙ rw (none, drop-same 0 (length (start ++ rest)) n) in
+      let counted : count ≡ length (start ++ rest) = both .after-it ∙ none in
+      rw (text, counted, parts)
+
+pub two-parts : (begun more : List ℕ) (middle : List ℕ) (first : ℕ) → Puts (zeros 1025) 0 (take (length (zeros 1025) - 0) begun) middle first → length middle ≡ 1025
     → (bytes : List ℕ) (count : ℕ) → Puts middle first (take (length middle - first) more) bytes count → record { bytes = bytes; count = count } ≡ openLine (take 1025 (begun ++ more))
-unfolding placed
-two-parts begun more middle first p same bytes count q =
-    let whole : length zeros - 0 ≡ 1025 = omega (arith, all-zeros) in
-    let start : List ℕ = take (length zeros - 0) begun in
-    let rest : List ℕ = take (length middle - first) more in
-    let both = joined zeros 0 start (omega arith) rest middle first p bytes count q in
-    let left : length middle - first ≡ 1025 - length (take 1025 begun) = omega (arith, p .after-it, same, whole) in
-    let parts : start ++ rest ≡ take 1025 (begun ++ more) = rw (whole, left) (sym (take-parts 1025 begun more)) in
-    let none : 0 + length (start ++ rest) ≡ length (start ++ rest) = omega arith in
-    let text : bytes ≡ (start ++ rest) ++ replicate (1025 - length (start ++ rest)) 0 = both .whole ∙ rw (none, drop-same 0 (length (start ++ rest)) 1025) in
-    let counted : count ≡ length (start ++ rest) = both .after-it ∙ none in
-    rw (text, counted, parts)
+two-parts = parts-in 1025
 
 -- the bytes of an open line are the line so far
 pub open-bytes : (line : OpenLine) (bytes : List ℕ) → line ≡ openLine bytes → bytesOf line ≡ bytes

@@ -1,9 +1,10 @@
 -- What the run's functions answer, by the progress of a run.
 -- Assumes nothing: these are definitions.
-use mathlib.Core.Bool.{true}
+use mathlib.Core.Bool.{Bool, true, _&&_}
 use mathlib.Core.List.{List, [], _++_}
 use mathlib.Core.Path.{_≡_}
 use Prim.Native.Nat.{ℕ, _+_, _-_, _≤_}
+use lib.Dec.{ltb}
 use lib.ListN.{length, take, drop, replicate}
 use Rattle.model.specs.Answer.{text, doneText}
 use Rattle.model.specs.Step.{asBytes, step}
@@ -77,9 +78,9 @@ pub record AnswersLines (book : Book) (store begun piece out : List ℕ) (r : Li
   pub fed : FedTo (before book store begun) begun piece out (r .book) (r .begun) (r .at) (r .put) laterStore laterOut
   pub over : hasRoom laterOut (r .put) ≡ true → indexOf 10 (drop (r .at) piece) ≡ length (drop (r .at) piece)
 
--- where no line was answered
-abbrev pub unanswered : Book → List ℕ → Lines
-unanswered book begun = record { book = book; begun = length begun; at = 0; put = 0 }
+-- a line that ends at place `end` ends in the piece, and the longest text has room
+abbrev pub canAnswer : List ℕ → ℕ → List ℕ → ℕ → Bool
+canAnswer piece end out put = ltb end (length piece) && hasRoom out put
 
 -- the lines that end in a piece from place `start` on, none of which was begun before it: what was fed up to there is fed on, whatever the run, the line begun and the buffer were at first
 pub record AnswersWholeLines (book : Book) (store piece : List ℕ) (start : ℕ) (out : List ℕ) (first : ℕ) (r : Lines) (laterStore laterOut : List ℕ) : Type 0 where

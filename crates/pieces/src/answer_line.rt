@@ -1,4 +1,5 @@
 // A line that has ended: its record applied, and the answer's text put.
+use crate::line::OpenLine;
 use crate::line::count;
 use crate::line::join;
 use answer::text::put_answer;
@@ -6,7 +7,7 @@ use journal::apply::apply;
 use state::book::Book;
 use state::store::Store;
 ghost use mathlib.Core.List.{_++_};
-ghost use Rattle.pieces.specs.Feed.{Answers};
+ghost use Rattle.pieces.specs.Feed.{bytesOf, Answers};
 
 // The later book, and the place after the text.
 pub struct Answered {
@@ -41,10 +42,20 @@ pub fn answer_joined(
 ) -> Answered
     ensures { λ r. ⌜ Answers book (now (store .entry)) (now (begun .entry) ++ now (rest .entry)) (now (out .entry)) at r (now (store .exit)) (now (out .exit)) ⌝ }
 {
-    if begun.len() == 0 {
-        return answer_line(book, store, rest, out, at);
-    }
     let line = join(begun, rest);
+    answer_open(book, store, line, out, at)
+}
+
+// An open line that has ended.
+pub fn answer_open(
+    book: Book,
+    store: &mut Store,
+    line: OpenLine,
+    out: &mut [u8],
+    at: usize,
+) -> Answered
+    ensures { λ r. ⌜ Answers book (now (store .entry)) (bytesOf line) (now (out .entry)) at r (now (store .exit)) (now (out .exit)) ⌝ }
+{
     let count = count(line);
     let bytes = line.bytes;
     answer_line(book, store, &bytes[..count], out, at)

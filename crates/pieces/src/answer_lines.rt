@@ -1,15 +1,15 @@
 // The lines that end in a piece, answered one after the other.
+use crate::answer_line::Answered;
 use crate::answer_line::answer_joined;
+use crate::answer_line::answer_line;
 use answer::text::has_room;
-use answer::text::put_answer;
-use journal::apply::apply;
 use line_end::line_end;
 use state::book::Book;
 use state::store::Store;
 ghost use mathlib.Core.Path.{_≡_};
 ghost use Prim.Native.Nat.{_≤_};
 ghost use lib.ListN.{length};
-ghost use Rattle.pieces.specs.Feed.{AnswersLines, AnswersWholeLines, unanswered};
+ghost use Rattle.pieces.specs.Feed.{AnswersLines, AnswersWholeLines, canAnswer};
 
 // The later book; how many bytes of the line before the piece still wait for its end; the place after the last line; the place after the texts.
 pub struct Lines {
@@ -34,21 +34,10 @@ pub fn answer_lines(
         return answer_whole_lines(book, store, piece, 0, out, 0);
     }
     let end = line_end(piece, 0);
-    if end < piece.len() {
-        if has_room(out, 0) {
-            let answered = answer_joined(book, store, begun, &piece[..end], out, 0);
-            let later = answered.book;
-            return answer_whole_lines(later, store, piece, end + 1, out, answered.next);
-        }
-        return none_answered(book, begun);
+    if can_answer(piece, end, out, 0) {
+        let answered = answer_joined(book, store, begun, &piece[..end], out, 0);
+        return answer_whole_lines(answered.book, store, piece, end + 1, out, answered.next);
     }
-    none_answered(book, begun)
-}
-
-// No line ends, or no text has room.
-fn none_answered(book: Book, begun: &[u8]) -> Lines
-    ensures { λ r. ⌜ r ≡ unanswered book (now (begun .entry)) ⌝ }
-{
     Lines {
         book,
         begun: begun.len(),
@@ -69,23 +58,26 @@ fn answer_whole_lines(
     requires { ⌜ start ≤ length (now piece) ⌝ }
     ensures { λ r. ⌜ AnswersWholeLines book (now (store .entry)) (now (piece .entry)) start (now (out .entry)) first r (now (store .exit)) (now (out .exit)) ⌝ }
 {
-    let mut last = book;
+    let mut last = Answered { book, next: first };
     let mut at = start;
-    let mut put = first;
     let mut end = line_end(piece, at);
-    while end < piece.len() && has_room(out, put) {
-        let outcome = apply(last, store, &piece[at..end]);
-        let answer = outcome.answer;
-        put = put_answer(out, put, answer, store);
-        let later = outcome.book;
-        last = later;
+    while can_answer(piece, end, out, last.next) {
+        last = answer_line(last.book, store, &piece[at..end], out, last.next);
         at = end + 1;
         end = line_end(piece, at);
     }
+    let later = last.book;
     Lines {
-        book: last,
+        book: later,
         begun: 0,
         at,
-        put,
+        put: last.next,
     }
+}
+
+// Does the line end in the piece, and has the longest text room?
+fn can_answer(piece: &[u8], end: usize, out: &[u8], put: usize) -> bool
+    ensures { λ r. ⌜ r ≡ canAnswer (now (piece .entry)) end (now (out .entry)) put ⌝ }
+{
+    end < piece.len() && has_room(out, put)
 }

@@ -1,6 +1,6 @@
 // A piece of the input: its lines answered one after the other, and the line that it leaves open.
 use crate::answer_line::Answered;
-use crate::answer_line::answer_line;
+use crate::answer_line::answer_open;
 use crate::answer_lines::answer_lines;
 use crate::line::OpenLine;
 use crate::line::count;
@@ -42,26 +42,23 @@ pub fn start(store: &mut Store) -> Run
 pub fn feed(run: Run, store: &mut Store, piece: &[u8], out: &mut [u8]) -> Fed
     ensures { λ r. ⌜ Feeds run (now (store .entry)) (now (piece .entry)) (now (out .entry)) r (now (store .exit)) (now (out .exit)) ⌝ }
 {
-    let line = run.line;
-    let bytes = line.bytes;
-    let begun = count(line);
+    let bytes = run.line.bytes;
+    let begun = count(run.line);
     let lines = answer_lines(run.book, store, &bytes[..begun], piece, out);
-    let book = lines.book;
-    let begun = lines.begun;
     let at = lines.at;
-    let put = lines.put;
-    if has_room(out, put) {
-        let longer = join(&bytes[..begun], &piece[at..]);
-        let taken = piece.len();
-        let run = Run { book, line: longer };
-        return Fed { run, taken, put };
-    }
-    let rest = join(&bytes[..begun], &piece[..0]);
-    let run = Run { book, line: rest };
+    // Where the longest text still has room, no line ends in the rest, and it is taken too.
+    let taken = if has_room(out, lines.put) {
+        piece.len()
+    } else {
+        at
+    };
+    let line = join(&bytes[..lines.begun], &piece[at..taken]);
+    let book = lines.book;
+    let run = Run { book, line };
     Fed {
         run,
-        taken: at,
-        put,
+        taken,
+        put: lines.put,
     }
 }
 
@@ -69,14 +66,12 @@ pub fn feed(run: Run, store: &mut Store, piece: &[u8], out: &mut [u8]) -> Fed
 pub fn close(run: Run, store: &mut Store, out: &mut [u8; 65536]) -> Answered
     ensures { λ r. ⌜ Closes run (now (store .entry)) (now (out .entry)) r (now (store .exit)) (now (out .exit)) ⌝ }
 {
-    let line = run.line;
-    let begun = count(line);
-    let book = run.book;
+    let begun = count(run.line);
     if begun == 0 {
+        let book = run.book;
         return Answered { book, next: 0 };
     }
-    let bytes = line.bytes;
-    answer_line(book, store, &bytes[..begun], out, 0)
+    answer_open(run.book, store, run.line, out, 0)
 }
 
 // "DONE closes every run: accepted, refused.": the counts of the last book.

@@ -1,6 +1,5 @@
 -- `pieces::feed::close` meets its contract. Assumes nothing.
 use borrow.Author.Needs.{needs}
-use Rattle.pieces.proofs.Joining.{count-fits, count-exact}
 use Rattle.pieces.proofs.FeedEnds.{closes-none, closes-line}
 use Rattle.pieces.proofs.feed.close.Statement.{statement}
 use Rattle.pieces.proofs.feed.close.Tie as tie
@@ -11,14 +10,8 @@ count-requires c κs = search needs
 returns : tie.Need-returns
 returns c = search closes-none
 
-array-share-prefix-bytes : tie.Need-array-share-prefix-bytes
-array-share-prefix-bytes c = search count-fits
-
-slice-aggregate-answer-line : tie.Need-slice-aggregate-answer-line
-slice-aggregate-answer-line c = search count-exact
-
-answer-line-requires : tie.Need-answer-line-requires
-answer-line-requires c κs = search needs
+answer-open-requires : tie.Need-answer-open-requires
+answer-open-requires c κs = search needs
 
 returns-2 : tie.Need-returns-2
 returns-2 c = search closes-line
@@ -29,7 +22,5 @@ close-spec =
     (tie.spec
     count-requires
     returns
-    array-share-prefix-bytes
-    slice-aggregate-answer-line
-    answer-line-requires
+    answer-open-requires
     returns-2)

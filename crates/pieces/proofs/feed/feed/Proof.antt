@@ -1,4 +1,5 @@
 -- `pieces::feed::feed` meets its contract. Assumes nothing.
+use mathlib.Core.Logic.{⊎-elim}
 use mathlib.Core.Path.{_≡_}
 use lib.ListN.{length}
 use borrow.Author.Needs.{needs}
@@ -18,7 +19,7 @@ slice-aggregate-answer-lines c = search count-exact
 
 answer-lines-requires : tie.Need-answer-lines-requires
 answer-lines-requires c κs =
-    let start = c .before .before .before .before .before .before .before .before in
+    let start = c .before .before .before .before .before .before .before in
     let size : length (start .args .run .line .bytes) ≡ 1025 = search (length-mapped, start .good .0) in
     search (begun-short, size)
 
@@ -32,13 +33,13 @@ slice-aggregate-join : tie.Need-slice-aggregate-join
 slice-aggregate-join c = search begun-exact
 
 sub-join : tie.Need-sub-join
-sub-join c = search needs
+sub-join c = ⊎-elim (λ all. search (needs, all .1)) (λ part. search (needs, part .1)) (c .before .before .if1 .came)
 
 part-join-start : tie.Need-part-join-start
-part-join-start c = search needs
+part-join-start c = ⊎-elim (λ all. search (needs, all .1)) (λ part. search (needs, part .1)) (c .before .before .if1 .came)
 
 part-join-end : tie.Need-part-join-end
-part-join-end c = search needs
+part-join-end c = ⊎-elim (λ all. search (needs, all .1)) (λ part. search (needs, part .1)) (c .before .before .if1 .came)
 
 join-requires : tie.Need-join-requires
 join-requires c κs = search needs
@@ -47,25 +48,7 @@ same-length : tie.Need-same-length
 same-length c = search needs
 
 returns : tie.Need-returns
-returns c = search feeds-room
-
-array-share-prefix-bytes-3 : tie.Need-array-share-prefix-bytes-3
-array-share-prefix-bytes-3 c = search begun-fits
-
-slice-aggregate-join-2 : tie.Need-slice-aggregate-join-2
-slice-aggregate-join-2 c = search begun-exact
-
-slice-aggregate-join-3 : tie.Need-slice-aggregate-join-3
-slice-aggregate-join-3 c = search needs
-
-join-requires-2 : tie.Need-join-requires-2
-join-requires-2 c κs = search needs
-
-same-length-2 : tie.Need-same-length-2
-same-length-2 c = search needs
-
-returns-2 : tie.Need-returns-2
-returns-2 c = search feeds-full
+returns c = ⊎-elim (λ all. search (feeds-room, all .0 .taken, all .1)) (λ part. search (feeds-full, part .0 .left, part .1)) (c .before .before .before .before .before .if1 .came)
 
 pub feed-spec : {M : Type 1} → statement M
 feed-spec =
@@ -83,10 +66,4 @@ feed-spec =
     part-join-end
     join-requires
     same-length
-    returns
-    array-share-prefix-bytes-3
-    slice-aggregate-join-2
-    slice-aggregate-join-3
-    join-requires-2
-    same-length-2
-    returns-2)
+    returns)
