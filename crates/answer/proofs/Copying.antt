@@ -1,6 +1,6 @@
 -- The loop that copies a text into a buffer, and one byte stored there.
 -- Assumes nothing.
-use mathlib.Core.Path.{_≡_, refl}
+use mathlib.Core.Path.{_≡_, refl, _∙_}
 use mathlib.Core.List.{List, [], _∷_, append-assoc}
 use Prim.Native.Nat.{ℕ, _+_, _≤_, _<_}
 use native.Mathlib.Omega.{arith}
@@ -42,3 +42,7 @@ module _ (buffer : List ℕ) (at : ℕ) (text later : List ℕ) (i : ℕ) (c : C
 pub byte-put : (buffer : List ℕ) (at byte : ℕ) → Room buffer at 1 → Puts buffer at (byte ∷ []) (set buffer at byte) (at + 1)
 unfolding placed
 byte-put buffer at byte room = record { whole = rw add-one (set-split buffer at byte (omega arith)); after-it = refl }
+
+-- the length is kept where a byte is stored on the way
+pub same-after : (buffer middle : List ℕ) (at byte : ℕ) (later : List ℕ) → length middle ≡ length buffer → length later ≡ length (set middle at byte) → length later ≡ length buffer
+same-after buffer middle at byte later first second = second ∙ length-set middle at byte ∙ first

@@ -8,10 +8,10 @@ use native.Mathlib.Omega.{arith}
 use borrow.Author.Tests.{le-leb, lt-leb, leb-true, leb-false}
 use lib.Dec.{leb}
 use lib.IntN.{ℤ}
-use lib.ListN.{length}
+use lib.ListN.{length, set}
 use Rattle.model.specs.Number.{decimal, signedDecimal}
 use Rattle.model.specs.Published.{published}
-use Rattle.model.specs.Answer.{declared, rated, tax, refusal, text, doneText}
+use Rattle.model.specs.Answer.{declared, rated, tax, refusal, lineOfText, text}
 use Rattle.model.specs.Answer as model
 use Rattle.ledger.specs.declared.answer.Answer.{Answer}
 use Rattle.ledger.specs.declared.answer.Answer.the-variants as answer
@@ -22,64 +22,71 @@ use Rattle.refusal.specs.Number.{numberOf}
 use Rattle.answer.specs.Put.{tabbed, Room, Puts, PutsShort}
 use Rattle.answer.specs.Text.{hasRoom, PutsWithRoom}
 use Rattle.answer.proofs.Factors.{factors}
-use Rattle.answer.proofs.Joins.{joined, next-inside, fact-line}
+use Rattle.answer.proofs.Joins.{joined, room-left, byte-first, byte-last, bytes-put, fact-line}
 
--- a text and what comes after it
-module _ (buffer : List ℕ) (at : ℕ) (le : at ≤ length buffer) (a : List ℕ) (middle : List ℕ) (next : ℕ) (p : Puts buffer at a middle next) where
-  and-then : (b later : List ℕ) (last : ℕ) → (next ≤ length middle → Puts middle next b later last) → Puts buffer at (a ++ b) later last
-  and-then b later last rest = joined buffer at a le b middle next p later last (rest (next-inside buffer at a le middle next p))
+-- a short text and what comes after it
+module _ (buffer : List ℕ) (at : ℕ) (a : List ℕ) (middle : List ℕ) (next most : ℕ) (p : PutsShort buffer at a middle next most) where
+  fits : (more : ℕ) → Room buffer at (most + more) → Room buffer at (length a + more)
+  fits more room = omega (arith, p .short, p .puts .after-it)
+
+  and-then : (more : ℕ) → Room buffer at (most + more) → (b later : List ℕ) (last : ℕ) → (Room middle next more → Puts middle next b later last) → Puts buffer at (a ++ b) later last
+  and-then more room b later last rest =
+      let le : at ≤ length buffer = omega arith in
+      joined buffer at a le b middle next (p .puts) later last (rest (room-left buffer at a le middle next (p .puts) more (fits more room)))
+
+  and-end : Room buffer at (most + 1) → Puts buffer at (a ++ (10 ∷ [])) (set middle next 10) (next + 1)
+  and-end room = byte-last buffer at a 10 middle next (p .puts) (fits 1 room)
+
+module _ (buffer : List ℕ) (at : ℕ) (word : List ℕ) (middle : List ℕ) (next : ℕ) (p : Puts buffer at word middle next) where
+  word-put : PutsShort buffer at word middle next (length word)
+  word-put = record { puts = p; short = omega (arith, p .after-it) }
+
+  -- a word and two numbers
+  pub numbers-put : Room buffer at (length word + 43) → (first second : ℕ) (m₁ m₂ : List ℕ) (n₁ n₂ : ℕ) → PutsShort middle next (9 ∷ decimal first) m₁ n₁ 21 → PutsShort m₁ n₁ (9 ∷ decimal second) m₂ n₂ 21
+      → Puts buffer at (lineOfText (word ∷ decimal first ∷ decimal second ∷ [])) (set m₂ n₂ 10) (n₂ + 1)
+  numbers-put room first second m₁ m₂ n₁ n₂ p₁ p₂ =
+      and-then buffer at word middle next (length word) word-put 43 room _ _ _ (λ room₁. and-then middle next _ m₁ n₁ 21 p₁ 22 room₁ _ _ _ (λ room₂. and-end m₁ n₁ _ m₂ n₂ 21 p₂ room₂))
+
+  -- a word, the letter and a number
+  pub beginning-put : Room buffer at (length word + 22) → (letter number : ℕ) (later : List ℕ) (last : ℕ) → PutsShort (set middle next letter) (next + 1) (9 ∷ decimal number) later last 21
+      → PutsShort buffer at (word ++ (letter ∷ 9 ∷ decimal number)) later last (length word + 22)
+  beginning-put room letter number later last q =
+      record {
+        puts = and-then buffer at word middle next (length word) word-put 22 room _ _ _ (λ room₁. byte-first middle next letter (omega arith) (9 ∷ decimal number) later last (q .puts));
+        short = omega (arith, p .after-it, q .short);
+      }
 
 module _ (buffer : List ℕ) (at : ℕ) (room : Room buffer at 320) (later : List ℕ) (last : ℕ) where
-  le : at ≤ length buffer
-  le = omega arith
-
   -- "LINE: letter, opening."
-  pub declared-put : (letter opening : ℕ) (m₁ m₂ m₃ : List ℕ) (n₁ n₂ n₃ : ℕ) → Puts buffer at (76 ∷ 73 ∷ 78 ∷ 69 ∷ 9 ∷ []) m₁ n₁ → Puts m₁ n₁ (letter ∷ []) m₂ n₂ → PutsShort m₂ n₂ (9 ∷ decimal opening) m₃ n₃ 21 → Puts m₃ n₃ (10 ∷ []) later last
-      → Puts buffer at (text (declared letter opening)) later last
+  pub declared-put : (letter opening : ℕ) → PutsShort buffer at (76 ∷ 73 ∷ 78 ∷ 69 ∷ 9 ∷ letter ∷ 9 ∷ decimal opening) later last 27 → Puts buffer at (text (declared letter opening)) (set later last 10) (last + 1)
   unfolding text
-  declared-put letter opening m₁ m₂ m₃ n₁ n₂ n₃ p₁ p₂ p₃ p₄ =
-      and-then buffer at le _ m₁ n₁ p₁ _ later last (λ le₁. and-then m₁ n₁ le₁ _ m₂ n₂ p₂ _ later last (λ le₂. and-then m₂ n₂ le₂ _ m₃ n₃ (p₃ .puts) _ later last (λ le₃. p₄)))
-
-  -- "RATE: year, the accident year's rate."
-  pub rated-put : (year rate : ℕ) (m₁ m₂ m₃ : List ℕ) (n₁ n₂ n₃ : ℕ) → Puts buffer at (82 ∷ 65 ∷ 84 ∷ 69 ∷ []) m₁ n₁ → PutsShort m₁ n₁ (9 ∷ decimal year) m₂ n₂ 21 → PutsShort m₂ n₂ (9 ∷ decimal rate) m₃ n₃ 21 → Puts m₃ n₃ (10 ∷ []) later last
-      → Puts buffer at (text (rated year rate)) later last
-  unfolding text
-  rated-put year rate m₁ m₂ m₃ n₁ n₂ n₃ p₁ p₂ p₃ p₄ =
-      and-then buffer at le _ m₁ n₁ p₁ _ later last (λ le₁. and-then m₁ n₁ le₁ _ m₂ n₂ (p₂ .puts) _ later last (λ le₂. and-then m₂ n₂ le₂ _ m₃ n₃ (p₃ .puts) _ later last (λ le₃. p₄)))
+  declared-put letter opening p = and-end buffer at _ later last 27 p (omega arith)
 
   -- "FACT: letter, year, published factors .., published composite."
-  pub fact-put : (store : List ℕ) (letter year : ℕ) (m₁ m₂ m₃ m₄ m₅ : List ℕ) (n₁ n₂ n₃ n₄ n₅ : ℕ) → Puts buffer at (70 ∷ 65 ∷ 67 ∷ 84 ∷ 9 ∷ []) m₁ n₁ → Puts m₁ n₁ (letter ∷ []) m₂ n₂
-      → PutsShort m₂ n₂ (9 ∷ decimal year) m₃ n₃ 21 → PutsShort m₃ n₃ (tabbed (factors store letter year)) m₄ n₄ 210 → PutsShort m₄ n₄ (9 ∷ decimal (published (factorAt store letter year 10))) m₅ n₅ 21 → Puts m₅ n₅ (10 ∷ []) later last
-      → Puts buffer at (text (answered (answer.Fact letter year) store)) later last
+  pub fact-put : (store : List ℕ) (letter year : ℕ) (m₁ m₂ : List ℕ) (n₁ n₂ : ℕ) → PutsShort buffer at (70 ∷ 65 ∷ 67 ∷ 84 ∷ 9 ∷ letter ∷ 9 ∷ decimal year) m₁ n₁ 27
+      → PutsShort m₁ n₁ (tabbed (factors store letter year)) m₂ n₂ 210 → PutsShort m₂ n₂ (9 ∷ decimal (published (factorAt store letter year 10))) later last 21
+      → Puts buffer at (text (answered (answer.Fact letter year) store)) (set later last 10) (last + 1)
   unfolding text
-  fact-put store letter year m₁ m₂ m₃ m₄ m₅ n₁ n₂ n₃ n₄ n₅ p₁ p₂ p₃ p₄ p₅ p₆ =
+  fact-put store letter year m₁ m₂ n₁ n₂ p₁ p₂ p₃ =
       rw (fact-line (decimal year) (decimal (published (factorAt store letter year 10))) (factors store letter year))
-      (and-then buffer at le _ m₁ n₁ p₁ _ later last (λ le₁. and-then m₁ n₁ le₁ _ m₂ n₂ p₂ _ later last (λ le₂. and-then m₂ n₂ le₂ _ m₃ n₃ (p₃ .puts) _ later last
-      (λ le₃. and-then m₃ n₃ le₃ _ m₄ n₄ (p₄ .puts) _ later last (λ le₄. and-then m₄ n₄ le₄ _ m₅ n₅ (p₅ .puts) _ later last (λ le₅. p₆))))))
+      (and-then buffer at _ m₁ n₁ 27 p₁ 232 (omega arith) _ _ _ (λ room₁. and-then m₁ n₁ _ m₂ n₂ 210 p₂ 22 room₁ _ _ _ (λ room₂. and-end m₂ n₂ _ later last 21 p₃ room₂)))
 
   -- "TAX: letter, year, paid, opening, closing, loss."
-  pub tax-put : (letter year : ℕ) (paid paid′ : ℤ) → paid′ ≡ paid → (opening closing : ℕ) (loss loss′ : ℤ) → loss′ ≡ loss → (m₁ m₂ m₃ m₄ m₅ m₆ m₇ : List ℕ) (n₁ n₂ n₃ n₄ n₅ n₆ n₇ : ℕ) → Puts buffer at (84 ∷ 65 ∷ 88 ∷ 9 ∷ []) m₁ n₁ → Puts m₁ n₁ (letter ∷ []) m₂ n₂
-      → PutsShort m₂ n₂ (9 ∷ decimal year) m₃ n₃ 21 → PutsShort m₃ n₃ (9 ∷ signedDecimal paid′) m₄ n₄ 22 → PutsShort m₄ n₄ (9 ∷ decimal opening) m₅ n₅ 21 → PutsShort m₅ n₅ (9 ∷ decimal closing) m₆ n₆ 21
-      → PutsShort m₆ n₆ (9 ∷ signedDecimal loss′) m₇ n₇ 22 → Puts m₇ n₇ (10 ∷ []) later last
-      → Puts buffer at (text (tax letter year paid opening closing loss)) later last
+  pub tax-put : (letter year : ℕ) (paid paid′ : ℤ) → paid′ ≡ paid → (opening closing : ℕ) (loss loss′ : ℤ) → loss′ ≡ loss → (m₁ m₂ m₃ m₄ : List ℕ) (n₁ n₂ n₃ n₄ : ℕ) → PutsShort buffer at (84 ∷ 65 ∷ 88 ∷ 9 ∷ letter ∷ 9 ∷ decimal year) m₁ n₁ 26
+      → PutsShort m₁ n₁ (9 ∷ signedDecimal paid′) m₂ n₂ 22 → PutsShort m₂ n₂ (9 ∷ decimal opening) m₃ n₃ 21 → PutsShort m₃ n₃ (9 ∷ decimal closing) m₄ n₄ 21 → PutsShort m₄ n₄ (9 ∷ signedDecimal loss′) later last 22
+      → Puts buffer at (text (tax letter year paid opening closing loss)) (set later last 10) (last + 1)
   unfolding text
-  tax-put letter year paid paid′ ep opening closing loss loss′ el m₁ m₂ m₃ m₄ m₅ m₆ m₇ n₁ n₂ n₃ n₄ n₅ n₆ n₇ p₁ p₂ p₃ p₄ p₅ p₆ p₇ p₈ =
+  tax-put letter year paid paid′ ep opening closing loss loss′ el m₁ m₂ m₃ m₄ n₁ n₂ n₃ n₄ p₁ p₂ p₃ p₄ p₅ =
       rw (← ep, ← el)
-      (and-then buffer at le _ m₁ n₁ p₁ _ later last (λ le₁. and-then m₁ n₁ le₁ _ m₂ n₂ p₂ _ later last (λ le₂. and-then m₂ n₂ le₂ _ m₃ n₃ (p₃ .puts) _ later last
-      (λ le₃. and-then m₃ n₃ le₃ _ m₄ n₄ (p₄ .puts) _ later last (λ le₄. and-then m₄ n₄ le₄ _ m₅ n₅ (p₅ .puts) _ later last (λ le₅. and-then m₅ n₅ le₅ _ m₆ n₆ (p₆ .puts) _ later last (λ le₆. and-then m₆ n₆ le₆ _ m₇ n₇ (p₇ .puts) _ later last (λ le₇. p₈))))))))
+      (and-then buffer at _ m₁ n₁ 26 p₁ 87 (omega arith) _ _ _ (λ room₁. and-then m₁ n₁ _ m₂ n₂ 22 p₂ 65 room₁ _ _ _ (λ room₂. and-then m₂ n₂ _ m₃ n₃ 21 p₃ 44 room₂ _ _ _
+      (λ room₃. and-then m₃ n₃ _ m₄ n₄ 21 p₄ 23 room₃ _ _ _ (λ room₄. and-end m₄ n₄ _ later last 22 p₅ room₄)))))
 
   -- "NO: the refusal's number."
-  pub refusal-put : (question number : ℕ) → number ≡ question → (m₁ m₂ : List ℕ) (n₁ n₂ : ℕ) → Puts buffer at (78 ∷ 79 ∷ []) m₁ n₁ → PutsShort m₁ n₁ (9 ∷ decimal number) m₂ n₂ 21 → Puts m₂ n₂ (10 ∷ []) later last
-      → Puts buffer at (text (refusal question)) later last
+  pub refusal-put : (question : ℕ) → PutsShort (set (set buffer at 78) (at + 1) 79) (at + 2) (9 ∷ decimal question) later last 21 → Puts buffer at (text (refusal question)) (set later last 10) (last + 1)
   unfolding text
-  refusal-put question number e m₁ m₂ n₁ n₂ p₁ p₂ p₃ = rw (← e) (and-then buffer at le _ m₁ n₁ p₁ _ later last (λ le₁. and-then m₁ n₁ le₁ _ m₂ n₂ (p₂ .puts) _ later last (λ le₂. p₃)))
-
-  -- "DONE closes every run: accepted, refused."
-  pub done-put : (accepted refused : ℕ) (m₁ m₂ m₃ : List ℕ) (n₁ n₂ n₃ : ℕ) → Puts buffer at (68 ∷ 79 ∷ 78 ∷ 69 ∷ []) m₁ n₁ → PutsShort m₁ n₁ (9 ∷ decimal accepted) m₂ n₂ 21 → PutsShort m₂ n₂ (9 ∷ decimal refused) m₃ n₃ 21 → Puts m₃ n₃ (10 ∷ []) later last
-      → Puts buffer at (doneText accepted refused) later last
-  unfolding doneText
-  done-put accepted refused m₁ m₂ m₃ n₁ n₂ n₃ p₁ p₂ p₃ p₄ =
-      and-then buffer at le _ m₁ n₁ p₁ _ later last (λ le₁. and-then m₁ n₁ le₁ _ m₂ n₂ (p₂ .puts) _ later last (λ le₂. and-then m₂ n₂ le₂ _ m₃ n₃ (p₃ .puts) _ later last (λ le₃. p₄)))
+  refusal-put question p =
+      let word : List ℕ = set (set buffer at 78) (at + 1) 79 in
+      and-then buffer at _ word (at + 2) 2 (word-put buffer at _ word (at + 2) (bytes-put buffer at 78 79 (omega arith))) 22 (omega arith) _ _ _ (λ room₁. and-end word (at + 2) _ later last 21 p room₁)
 
 -- the longest text has room, or has none
 module _ (buffer : List ℕ) (at : ℕ) where
@@ -121,5 +128,5 @@ module _ (buffer : List ℕ) (at : ℕ) (t : Bool) (et : t ≡ hasRoom buffer at
       → paid′ ≡ paid → loss′ ≡ loss → PutsWithRoom buffer at (text (answered given store)) later last
   tax-answered letter year paid opening closing loss eg paid′ loss′ p ep el = line-answered (tax letter year paid opening closing loss) (rw eg) (rw (ep, el) at p)
 
-  pub refusal-answered : (question : Refusal) → given ≡ answer.No question → Puts buffer at (text (refusal (numberOf question))) later last → PutsWithRoom buffer at (text (answered given store)) later last
-  refusal-answered question eg p = line-answered (refusal (numberOf question)) (rw eg) p
+  pub refusal-answered : (question : Refusal) → given ≡ answer.No question → (number : ℕ) → number ≡ numberOf question → Puts buffer at (text (refusal number)) later last → PutsWithRoom buffer at (text (answered given store)) later last
+  refusal-answered question eg number en p = line-answered (refusal (numberOf question)) (rw eg) (rw en at p)

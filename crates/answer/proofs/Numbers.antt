@@ -9,14 +9,15 @@ use native.Mathlib.Numerals.{add-one}
 use borrow.Author.Tests.{ltb-true, le-ltb}
 use lib.Dec.{T}
 use lib.IntN.{ℤ, pos, negsuc, natAbs, _-ℤ_}
-use lib.ListN.{length}
+use lib.ListN.{length, set}
 use lib.Signed.{mag, ltZ, nonNeg}
 use mir.Syntax.{w64}
 use mir.Val.{Fits, SFits, toZ, ofZ}
 use mir.Facts.{toZ-ofZ, fits-natAbs}
 use Rattle.model.specs.Number.{minus, decimal, signedDecimal}
 use Rattle.answer.specs.Put.{Room, Puts, PutsShort}
-use Rattle.answer.proofs.Joins.{joined}
+use Rattle.answer.proofs.Copying.{byte-put}
+use Rattle.answer.proofs.Joins.{joined, bytes-put}
 
 digits-put : (buffer : List ℕ) (at : ℕ) (first middle : List ℕ) (next : ℕ) → Puts buffer at first middle next → (n : ℕ) (later : List ℕ) (last : ℕ) → PutsShort middle next (decimal n) later last 20
     → Room buffer at (length first + 20) → PutsShort buffer at (first ++ decimal n) later last (length first + 20)
@@ -26,9 +27,8 @@ digits-put buffer at first middle next p n later last q room =
       short = omega (arith, p .after-it, q .short);
     }
 
-pub number-put : (buffer : List ℕ) (at : ℕ) (middle : List ℕ) (next : ℕ) → Puts buffer at (9 ∷ []) middle next → (n : ℕ) (later : List ℕ) (last : ℕ) → PutsShort middle next (decimal n) later last 20
-    → Room buffer at 21 → PutsShort buffer at (9 ∷ decimal n) later last 21
-number-put buffer at = digits-put buffer at (9 ∷ [])
+pub number-put : (buffer : List ℕ) (at n : ℕ) (later : List ℕ) (last : ℕ) → PutsShort (set buffer at 9) (at + 1) (decimal n) later last 20 → Room buffer at 21 → PutsShort buffer at (9 ∷ decimal n) later last 21
+number-put buffer at n later last q room = digits-put buffer at (9 ∷ []) (set buffer at 9) (at + 1) (byte-put buffer at 9 (omega arith)) n later last q room
 
 -- a number below zero
 opposite-size : (v : ℤ) → ltZ v (pos 0) ≡ true → negsuc 0 -ℤ v ≡ pos (mag v)
@@ -62,10 +62,10 @@ module _ (v : ℤ) (fits : SFits w64 v) (below : ltZ (toZ w64 (ofZ w64 v)) (pos 
   pub one-more-fits : Fits w64 (natAbs (opposite v) + 1)
   one-more-fits = rw opposite-is (record { fits = omega (arith, fits .sfits) })
 
-  pub minus-put : (buffer : List ℕ) (at : ℕ) (middle : List ℕ) (next : ℕ) → Puts buffer at (9 ∷ minus ∷ []) middle next → (later : List ℕ) (last : ℕ) → PutsShort middle next (decimal (natAbs (opposite v) + 1)) later last 20
+  pub minus-put : (buffer : List ℕ) (at : ℕ) (later : List ℕ) (last : ℕ) → PutsShort (set (set buffer at 9) (at + 1) minus) (at + 2) (decimal (natAbs (opposite v) + 1)) later last 20
       → Room buffer at 22 → PutsShort buffer at (9 ∷ signedDecimal v) later last 22
-  minus-put buffer at middle next p later last q room =
-      rw (← (minus-text v falls)) (digits-put buffer at (9 ∷ minus ∷ []) middle next p (mag v + 1) later last (rw opposite-is at q) room)
+  minus-put buffer at later last q room =
+      rw (← (minus-text v falls)) (digits-put buffer at (9 ∷ minus ∷ []) (set (set buffer at 9) (at + 1) minus) (at + 2) (bytes-put buffer at 9 minus (omega arith)) (mag v + 1) later last (rw opposite-is at q) room)
 
 -- a number that is not below zero
 not-below : (v : ℤ) → ltZ v (pos 0) ≡ false → T (nonNeg v)

@@ -1,6 +1,6 @@
 // Texts put into a lent buffer, each from a place on; the place after it is answered.
 use crate::digits::digit_count;
-ghost use mathlib.Core.List.{[], _∷_};
+ghost use mathlib.Core.List.{_∷_};
 ghost use lib.ListN.{length};
 ghost use Rattle.model.specs.Number.{decimal, signedDecimal};
 ghost use Rattle.answer.specs.Put.{Room, Puts, PutsShort};
@@ -15,14 +15,6 @@ pub fn put(out: &mut [u8], at: usize, text: &[u8]) -> usize
         i += 1;
     }
     at + i
-}
-
-pub fn put_byte(out: &mut [u8], at: usize, byte: u8) -> usize
-    requires { ⌜ Room (now out) at 1 ⌝ }
-    ensures { λ r. ⌜ Puts (now (out .entry)) at (byte ∷ []) (now (out .exit)) r ⌝ }
-{
-    out[at] = byte;
-    at + 1
 }
 
 // The digits of a number, from the last one back.
@@ -46,8 +38,8 @@ pub fn put_number(out: &mut [u8], at: usize, n: u64) -> usize
     requires { ⌜ Room (now out) at 21 ⌝ }
     ensures { λ r. ⌜ PutsShort (now (out .entry)) at (9 ∷ decimal n) (now (out .exit)) r 21 ⌝ }
 {
-    let next = put_byte(out, at, 9);
-    put_digits(out, next, n)
+    out[at] = 9;
+    put_digits(out, at + 1, n)
 }
 
 // A tab and a number that may fall below zero.
@@ -56,9 +48,9 @@ pub fn put_signed(out: &mut [u8], at: usize, v: i64) -> usize
     ensures { λ r. ⌜ PutsShort (now (out .entry)) at (9 ∷ signedDecimal v) (now (out .exit)) r 22 ⌝ }
 {
     if v < 0 {
-        let size = (-1 - v) as u64 + 1;
-        let next = put(out, at, b"\t-");
-        return put_digits(out, next, size);
+        out[at] = 9;
+        out[at + 1] = b'-';
+        return put_digits(out, at + 2, (-1 - v) as u64 + 1);
     }
     put_number(out, at, v as u64)
 }

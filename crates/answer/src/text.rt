@@ -1,24 +1,23 @@
 // Document 01, "A run of the book's program": the text of each answer, and of DONE, put into a lent buffer.
 use crate::put::put;
-use crate::put::put_byte;
 use crate::put::put_number;
 use crate::put::put_signed;
 use factor::published::published;
 use ledger::answer::Answer;
 use letters::letter::ages;
-use refusal::Refusal;
 use state::patterns::COMPOSITE;
 use state::patterns::factor_in;
 use state::store::Store;
-ghost use mathlib.Core.List.{_∷_, map};
+ghost use mathlib.Core.List.{[], _∷_, _++_, map};
 ghost use mathlib.Core.Path.{_≡_};
-ghost use Rattle.model.specs.Answer.{declared, rated, tax, refusal, text, doneText};
+ghost use Prim.Native.Nat.{_+_};
+ghost use lib.ListN.{length};
+ghost use Rattle.model.specs.Answer.{declared, rated, tax, refusal, lineOfText, text, doneText};
 ghost use Rattle.model.specs.Number.{decimal};
 ghost use Rattle.model.specs.Published.{published};
 ghost use Rattle.state.specs.Patterns.{factorAt, patternAt};
 ghost use Rattle.ledger.specs.Answer.{answered};
 ghost use Rattle.ledger.specs.declared.answer.Answer.the-variants.{Fact};
-ghost use Rattle.refusal.specs.Number.{numberOf};
 ghost use Rattle.answer.specs.Put.{Room, Puts, PutsShort, tabbed};
 ghost use Rattle.answer.specs.Text.{hasRoom, PutsWithRoom};
 
@@ -42,7 +41,7 @@ pub fn put_answer(out: &mut [u8], at: usize, answer: Answer, store: &Store) -> u
                 closing,
                 loss,
             } => put_tax(out, at, letter, year, paid, opening, closing, loss),
-            Answer::No(refusal) => put_refusal(out, at, refusal),
+            Answer::No(refusal) => put_refusal(out, at, refusal.number()),
         }
     } else {
         at
@@ -54,7 +53,7 @@ pub fn put_done(out: &mut [u8], at: usize, accepted: u64, refused: u64) -> usize
     ensures { λ r. ⌜ PutsWithRoom (now (out .entry)) at (doneText accepted refused) (now (out .exit)) r ⌝ }
 {
     if has_room(out, at) {
-        return put_counts(out, at, accepted, refused);
+        return put_numbers(out, at, b"DONE", accepted, refused);
     }
     at
 }
@@ -69,14 +68,26 @@ pub fn has_room(out: &[u8], at: usize) -> bool
     at <= out.len() - MOST
 }
 
-fn put_counts(out: &mut [u8], at: usize, accepted: u64, refused: u64) -> usize
-    requires { ⌜ Room (now out) at 320 ⌝ }
-    ensures { λ r. ⌜ Puts (now (out .entry)) at (doneText accepted refused) (now (out .exit)) r ⌝ }
+// A line of a word and two numbers.
+fn put_numbers(out: &mut [u8], at: usize, word: &[u8], first: u64, second: u64) -> usize
+    requires { ⌜ Room (now out) at (length (now word) + 43) ⌝ }
+    ensures { λ r. ⌜ Puts (now (out .entry)) at (lineOfText (now (word .entry) ∷ decimal first ∷ decimal second ∷ [])) (now (out .exit)) r ⌝ }
 {
-    let word = put(out, at, b"DONE");
-    let first = put_number(out, word, accepted);
-    let last = put_number(out, first, refused);
-    put_byte(out, last, 10)
+    let numbers = put(out, at, word);
+    let middle = put_number(out, numbers, first);
+    let last = put_number(out, middle, second);
+    out[last] = 10;
+    last + 1
+}
+
+// How LINE, FACT and TAX begin: a word and its tab, the letter, and a number.
+fn put_beginning(out: &mut [u8], at: usize, word: &[u8], letter: u8, number: u64) -> usize
+    requires { ⌜ Room (now out) at (length (now word) + 22) ⌝ }
+    ensures { λ r. ⌜ PutsShort (now (out .entry)) at (now (word .entry) ++ (letter ∷ 9 ∷ decimal number)) (now (out .exit)) r (length (now (word .entry)) + 22) ⌝ }
+{
+    let line = put(out, at, word);
+    out[line] = letter;
+    put_number(out, line + 1, number)
 }
 
 // "LINE: letter, opening."
@@ -84,10 +95,9 @@ fn put_declared(out: &mut [u8], at: usize, letter: u8, opening: u64) -> usize
     requires { ⌜ Room (now out) at 320 ⌝ }
     ensures { λ r. ⌜ Puts (now (out .entry)) at (text (declared letter opening)) (now (out .exit)) r ⌝ }
 {
-    let word = put(out, at, b"LINE\t");
-    let line = put_byte(out, word, letter);
-    let last = put_number(out, line, opening);
-    put_byte(out, last, 10)
+    let last = put_beginning(out, at, b"LINE\t", letter, opening);
+    out[last] = 10;
+    last + 1
 }
 
 // "RATE: year, the accident year's rate."
@@ -95,10 +105,7 @@ fn put_rated(out: &mut [u8], at: usize, year: u64, rate: u64) -> usize
     requires { ⌜ Room (now out) at 320 ⌝ }
     ensures { λ r. ⌜ Puts (now (out .entry)) at (text (rated year rate)) (now (out .exit)) r ⌝ }
 {
-    let word = put(out, at, b"RATE");
-    let first = put_number(out, word, year);
-    let last = put_number(out, first, rate);
-    put_byte(out, last, 10)
+    put_numbers(out, at, b"RATE", year, rate)
 }
 
 // "A PATT prints FACT: letter, year, published factors of ages 1 to 10 (1 and 2), published composite."
@@ -106,12 +113,11 @@ fn put_fact(out: &mut [u8], at: usize, letter: u8, year: u64, store: &Store) -> 
     requires { ⌜ Room (now out) at 320 ⌝ }
     ensures { λ r. ⌜ Puts (now (out .entry)) at (text (answered (Fact letter year) (now (store .entry)))) (now (out .exit)) r ⌝ }
 {
-    let word = put(out, at, b"FACT\t");
-    let line = put_byte(out, word, letter);
-    let first = put_number(out, line, year);
+    let first = put_beginning(out, at, b"FACT\t", letter, year);
     let factors = put_factors(out, first, letter, year, store);
     let last = put_factor(out, factors, letter, year, COMPOSITE, store);
-    put_byte(out, last, 10)
+    out[last] = 10;
+    last + 1
 }
 
 // A tab and the published factor, for each age.
@@ -162,23 +168,23 @@ fn put_tax(
     requires { ⌜ Room (now out) at 320 ⌝ }
     ensures { λ r. ⌜ Puts (now (out .entry)) at (text (tax letter year paid opening closing loss)) (now (out .exit)) r ⌝ }
 {
-    let word = put(out, at, b"TAX\t");
-    let line = put_byte(out, word, letter);
-    let first = put_number(out, line, year);
+    let first = put_beginning(out, at, b"TAX\t", letter, year);
     let second = put_signed(out, first, paid);
     let third = put_number(out, second, opening);
     let fourth = put_number(out, third, closing);
     let last = put_signed(out, fourth, loss);
-    put_byte(out, last, 10)
+    out[last] = 10;
+    last + 1
 }
 
 // "NO: the refusal's number."
-fn put_refusal(out: &mut [u8], at: usize, refused: Refusal) -> usize
+fn put_refusal(out: &mut [u8], at: usize, question: u64) -> usize
     requires { ⌜ Room (now out) at 320 ⌝ }
-    ensures { λ r. ⌜ Puts (now (out .entry)) at (text (refusal (numberOf refused))) (now (out .exit)) r ⌝ }
+    ensures { λ r. ⌜ Puts (now (out .entry)) at (text (refusal question)) (now (out .exit)) r ⌝ }
 {
-    let question = refused.number();
-    let word = put(out, at, b"NO");
-    let last = put_number(out, word, question);
-    put_byte(out, last, 10)
+    out[at] = b'N';
+    out[at + 1] = b'O';
+    let last = put_number(out, at + 2, question);
+    out[last] = 10;
+    last + 1
 }

@@ -1,29 +1,38 @@
 -- `answer::put::put_signed` meets its contract. Assumes nothing.
+use native.Mathlib.Omega.{arith}
 use borrow.Author.Needs.{needs}
+use lib.ListN.{length-set}
+use Rattle.answer.proofs.Copying.{same-after}
 use Rattle.answer.proofs.Numbers.{opposite-fits, opposite-casts, one-more-fits, minus-put, number-casts, plus-put}
 use Rattle.answer.proofs.put.put_signed.Statement.{statement}
 use Rattle.answer.proofs.put.put_signed.Tie as tie
 
-sub-size : tie.Need-sub-size
-sub-size c = search opposite-fits
+slice-write-out : tie.Need-slice-write-out
+slice-write-out c = search needs
 
-cast-size : tie.Need-cast-size
-cast-size c = opposite-casts _ (c .before .before .fits .v) (c .if1 .taken)
+add-out : tie.Need-add-out
+add-out c = search needs
 
-add-size : tie.Need-add-size
-add-size c = search one-more-fits
+slice-write-out-2 : tie.Need-slice-write-out-2
+slice-write-out-2 c = simp length-set (omega arith)
 
-slice-aggregate-put : tie.Need-slice-aggregate-put
-slice-aggregate-put c = search needs
+add-put-digits : tie.Need-add-put-digits
+add-put-digits c = search needs
 
-put-requires : tie.Need-put-requires
-put-requires c κs = search needs
+sub-put-digits : tie.Need-sub-put-digits
+sub-put-digits c = search opposite-fits
+
+cast-put-digits : tie.Need-cast-put-digits
+cast-put-digits c = opposite-casts _ (c .before .before .before .fits .v) (c .before .if1 .taken)
+
+add-put-digits-2 : tie.Need-add-put-digits-2
+add-put-digits-2 c = search one-more-fits
 
 put-digits-requires : tie.Need-put-digits-requires
-put-digits-requires c κs = search needs
+put-digits-requires c κs = simp length-set (omega arith)
 
 same-length : tie.Need-same-length
-same-length c = search needs
+same-length c = search (same-after, length-set)
 
 returns : tie.Need-returns
 returns c = search minus-put
@@ -44,11 +53,13 @@ pub put-signed-spec : {M : Type 1} → statement M
 put-signed-spec =
     tie.close
     (tie.spec
-    sub-size
-    cast-size
-    add-size
-    slice-aggregate-put
-    put-requires
+    slice-write-out
+    add-out
+    slice-write-out-2
+    add-put-digits
+    sub-put-digits
+    cast-put-digits
+    add-put-digits-2
     put-digits-requires
     same-length
     returns

@@ -36,6 +36,9 @@ put-tax-requires c κs = search room
 enum-known-answer-5 : tie.Need-enum-known-answer-5
 enum-known-answer-5 c = search needs
 
+number-requires : tie.Need-number-requires
+number-requires c κs = search needs
+
 put-refusal-requires : tie.Need-put-refusal-requires
 put-refusal-requires c κs = search room
 
@@ -89,6 +92,7 @@ put-answer-spec =
     enum-known-answer-4
     put-tax-requires
     enum-known-answer-5
+    number-requires
     put-refusal-requires
     same-length
     returns

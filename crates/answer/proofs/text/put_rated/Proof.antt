@@ -1,39 +1,28 @@
 -- `answer::text::put_rated` meets its contract. Assumes nothing.
 use native.Mathlib.Omega.{arith}
 use borrow.Author.Needs.{needs}
-use Rattle.answer.proofs.Lines.{rated-put}
+use Rattle.model.specs.Answer.{text}
 use Rattle.answer.proofs.text.put_rated.Statement.{statement}
 use Rattle.answer.proofs.text.put_rated.Tie as tie
 
-slice-aggregate-put : tie.Need-slice-aggregate-put
-slice-aggregate-put c = search needs
+slice-aggregate-put-numbers : tie.Need-slice-aggregate-put-numbers
+slice-aggregate-put-numbers c = search needs
 
-put-requires : tie.Need-put-requires
-put-requires c κs = omega arith
-
-put-number-requires : tie.Need-put-number-requires
-put-number-requires c κs = omega arith
-
-put-number-requires-2 : tie.Need-put-number-requires-2
-put-number-requires-2 c κs = omega arith
-
-put-byte-requires : tie.Need-put-byte-requires
-put-byte-requires c κs = omega arith
+put-numbers-requires : tie.Need-put-numbers-requires
+put-numbers-requires c κs = omega arith
 
 same-length : tie.Need-same-length
 same-length c = omega arith
 
 returns : tie.Need-returns
-returns c = search rated-put
+unfolding text
+returns c = search needs
 
 pub put-rated-spec : {M : Type 1} → statement M
 put-rated-spec =
     tie.close
     (tie.spec
-    slice-aggregate-put
-    put-requires
-    put-number-requires
-    put-number-requires-2
-    put-byte-requires
+    slice-aggregate-put-numbers
+    put-numbers-requires
     same-length
     returns)
