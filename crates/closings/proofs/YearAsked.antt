@@ -18,7 +18,7 @@ use Rattle.model.specs.Call.{Call, closeYear}
 use Rattle.model.specs.Question.{Sound, hasLengths, isWithinLimits, haveKept, bookQuestions, firstNo}
 use Rattle.model.specs.Step.{asNumbers}
 use Rattle.model.proofs.Lists.{and-left, and-right, true≢false}
-use Rattle.reserve.specs.YearEnd.{hasLimits}
+use Rattle.year_rows.specs.Limits.{hasLimits}
 use Rattle.reserve.proofs.Verdicts.{limits-of-year}
 use Rattle.state.specs.declared.book.Book.{Book}
 use Rattle.state.specs.declared.lines.Line.{Line}

@@ -17,7 +17,8 @@ use Rattle.model.specs.YearEnd.{closing, opening, paidTotal, loss}
 use Rattle.model.specs.Call.{closeYear}
 use Rattle.model.specs.Step.{withClosing, accept}
 use Rattle.model.proofs.Lists.{and-left, and-right}
-use Rattle.reserve.specs.YearEnd.{hasLimits, yearEnd}
+use Rattle.year_rows.specs.Limits.{hasLimits}
+use Rattle.reserve.specs.YearEnd.{yearEnd}
 use Rattle.reserve.specs.declared.year_end.YearEnd.{YearEnd}
 use Rattle.refusal.specs.declared.Verdict.the-variants.{Fine}
 use Rattle.reserve.proofs.Closings.{RowFactors, closing-of-line}

@@ -1,10 +1,10 @@
 // The patterns that the rows of a year take.
 use letters::letter::ages;
-use reserve::questions::has_gross;
 use state::lines::Line;
 use state::patterns::COMPOSITE;
 use state::patterns::factor_in;
 use state::store::Store;
+use year_rows::questions::has_gross;
 ghost use mathlib.Core.Path.{_≡_};
 ghost use Prim.Native.Nat.{_≤_};
 ghost use Rattle.model.specs.Letter.{ages};

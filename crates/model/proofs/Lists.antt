@@ -36,6 +36,13 @@ pub not-given : {A : Type 0} (o : Option A) → not (given o) ≡ true → o ≡
 not-given none e = refl
 not-given (some a) e = absurd (true≢false (sym e))
 
+-- the code's `a && b`, where the test b is put only if a holds: t is what stands where its two ways meet
+pub meet-taken : (a b t : Bool) → a ≡ true → t ≡ b → t ≡ a && b
+meet-taken a b t ea et = rw ea et
+
+pub meet-left : (a b t : Bool) → a ≡ false → t ≡ false → t ≡ a && b
+meet-left a b t ea et = rw ea et
+
 pub and-left : (a b : Bool) → a && b ≡ true → a ≡ true
 and-left true b e = refl
 and-left false b e = e

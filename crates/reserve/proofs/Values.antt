@@ -1,21 +1,11 @@
--- A row's gross and discounted value: whether gross is above 0; the products fit, it is at most what is unpaid, and the code's smaller of two is the definition's.
+-- A row's discounted value: the products fit, it is at most what is unpaid, and the code's smaller of two is the definition's.
 -- Assumes nothing.
 use mathlib.Core.Path.{_≡_}
 use Prim.Native.Nat.{ℕ, _+_, _*_, _/_, _≤_, _<_}
 use native.Mathlib.Omega.{arith}
 use native.Mathlib.Nat.{mul-le-mul}
-use borrow.Author.Tests.{lt-ltb}
-use lib.Dec.{ltb}
 use Rattle.model.specs.Published.{published}
 use Rattle.model.specs.Row.{Row, discounted, stated}
-
--- gross is above 0 where unpaid is, or else where tabular is
-module _ (u t : ℕ) where
-  pub unpaid-above : 0 < u → ltb 0 u ≡ ltb 0 (u + t)
-  unpaid-above h = rw (lt-ltb 0 u h, lt-ltb 0 (u + t) (omega arith))
-
-  pub nothing-unpaid : u ≤ 0 → ltb 0 t ≡ ltb 0 (u + t)
-  nothing-unpaid h = let e : u + t ≡ t = omega arith in rw e
 
 pub product : (g p : ℕ) → g ≤ 20000000000 → p ≤ 1000000 → g * p ≤ 20000000000000000
 product g p hg hp = mul-le-mul hg hp

@@ -16,7 +16,8 @@ use Rattle.model.specs.Row.{rowsOf}
 use Rattle.model.specs.YearEnd.{paidTotal, closing, loss}
 use Rattle.model.proofs.YearRows.{length-is, rows-count}
 use Rattle.reserve.specs.Closing.{closingAt}
-use Rattle.reserve.specs.YearEnd.{hasLimits, yearEnd}
+use Rattle.year_rows.specs.Limits.{hasLimits}
+use Rattle.reserve.specs.YearEnd.{yearEnd}
 use Rattle.refusal.specs.declared.Verdict.the-variants.{Fine}
 use Rattle.reserve.proofs.Closings.{RowFactors, closing-of-line, factors-within}
 use Rattle.reserve.proofs.Conjunctions.{three}

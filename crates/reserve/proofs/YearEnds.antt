@@ -31,7 +31,8 @@ use Rattle.refusal.specs.declared.Verdict.the-variants.{Fine}
 use Rattle.reserve.specs.Closing.{areFactors, closingAt, closingIn}
 use Rattle.reserve.specs.Figures.{Figures}
 use Rattle.reserve.specs.Lists.{PaidList, ReserveLists, paidSum, statedRows}
-use Rattle.reserve.specs.YearEnd.{hasLimits, refused, rowsEnd, yearEnd}
+use Rattle.year_rows.specs.Limits.{hasLimits}
+use Rattle.reserve.specs.YearEnd.{refused, rowsEnd, yearEnd}
 use Rattle.reserve.specs.declared.year_end.YearEnd.{YearEnd}
 use Rattle.reserve.proofs.Conjunctions.{three}
 use Rattle.reserve.proofs.Lists.{closing-is, reserve-lists, closing-small, paid-list, paid-small}

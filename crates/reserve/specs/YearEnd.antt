@@ -5,9 +5,7 @@ use mathlib.Core.List.{List, [], _∷_}
 use mathlib.Core.Option.{Option, none, some}
 use Prim.Native.Nat.{ℕ}
 use lib.IntN.{ℤ, pos}
-use Rattle.model.specs.Basics.{all}
 use Rattle.model.specs.Call.{closeYear}
-use Rattle.model.specs.Kind.{isAmount, isPaid}
 use Rattle.model.specs.Letter.{covered}
 use Rattle.model.specs.Question.{hasLengths, firstNo}
 use Rattle.model.specs.Row.{Row, rowsOf}
@@ -16,12 +14,9 @@ use Rattle.money.specs.Closing.{isClosing}
 use Rattle.refusal.specs.Number.{refusalOf}
 use Rattle.refusal.specs.declared.Refusal.{Refusal}
 use Rattle.refusal.specs.declared.Verdict.the-variants.{Fine, Refused}
+use Rattle.year_rows.specs.Limits.{hasLimits}
 use Rattle.reserve.specs.Closing.{areFactors, closingAt}
 use Rattle.reserve.specs.declared.year_end.YearEnd.{YearEnd}
-
--- "6. Is every number within its limits?", but for the year
-abbrev pub hasLimits : List ℤ → List ℕ → List ℕ → Bool
-hasLimits paid unpaid tabular = all isPaid paid && all isAmount unpaid && all isAmount tabular
 
 -- "4. Is the count of fields right?" "6. Is every number within its limits?"
 abbrev pub questions : ℕ → List ℤ → List ℕ → List ℕ → List ℕ → ℕ → List (ℕ × Bool)

@@ -2,6 +2,5 @@
 mod closing;
 mod loss;
 mod paid_total;
-pub mod questions;
 mod row;
 pub mod year_end;

@@ -2,13 +2,13 @@
 use crate::closing::closing;
 use crate::loss::loss;
 use crate::paid_total::paid_total;
-use crate::questions::has_lengths;
 use letters::letter::is_covered;
 use money::closing::Closing;
 use money::closing::MaybeClosing;
 use money::paid::Paid;
 use refusal::Refusal;
 use refusal::Verdict;
+use year_rows::questions::has_lengths;
 ghost use mathlib.Core.Path.{_≡_};
 ghost use Rattle.reserve.specs.YearEnd.{yearEnd, rowsEnd, refused};
 

@@ -2,7 +2,7 @@
 use mathlib.Core.Path.{refl}
 use borrow.Author.Needs.{needs}
 use borrow.Author.Tests.{eq-eqb, ne-eqb}
-use Rattle.reserve.proofs.Conjunctions.{meet-taken, meet-left}
+use Rattle.model.proofs.Lists.{meet-taken, meet-left}
 use Rattle.patterns.proofs.add_pattern.has_lengths.Statement.{statement}
 use Rattle.patterns.proofs.add_pattern.has_lengths.Tie as tie
 

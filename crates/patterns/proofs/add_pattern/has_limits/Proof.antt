@@ -5,7 +5,7 @@ use mathlib.Core.Path.{_≡_, sym, _∙_}
 use borrow.Author.Needs.{needs}
 use Rattle.model.specs.Basics.{all}
 use Rattle.model.specs.Kind.{isAmount, isYear}
-use Rattle.reserve.proofs.Conjunctions.{meet-taken, meet-left}
+use Rattle.model.proofs.Lists.{meet-taken, meet-left}
 use Rattle.patterns.proofs.add_pattern.has_limits.Statement.{statement}
 use Rattle.patterns.proofs.add_pattern.has_limits.Tie as tie
 

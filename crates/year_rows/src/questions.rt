@@ -7,7 +7,7 @@ ghost use lib.Dec.{ltb};
 ghost use Rattle.model.specs.Call.{closeYear};
 ghost use Rattle.model.specs.Question.{hasLengths};
 ghost use Rattle.model.specs.Row.{gross, stated};
-ghost use Rattle.reserve.specs.YearEnd.{hasLimits};
+ghost use Rattle.year_rows.specs.Limits.{hasLimits};
 
 // "4. Is the count of fields right?": a number for each age, and one for the prior row, in each list.
 pub fn has_lengths(letter: u8, paid: &[i64], unpaid: &[u64], tabular: &[u64]) -> bool

@@ -1,4 +1,4 @@
--- `reserve::questions::has_lengths` meets its contract. Assumes nothing.
+-- `year_rows::questions::has_lengths` meets its contract. Assumes nothing.
 use mathlib.Core.Bool.{_&&_}
 use mathlib.Core.Logic.{⊎-elim}
 use mathlib.Core.Path.{_≡_, sym, _∙_}
@@ -10,9 +10,10 @@ use lib.Dec.{eqb}
 use lib.ListN.{length}
 use Rattle.model.specs.Letter.{ages}
 use Rattle.model.proofs.Ages.{ages-small}
-use Rattle.reserve.proofs.Conjunctions.{meet-taken, meet-left, is-rows, not-rows, rows-test}
-use Rattle.reserve.proofs.questions.has_lengths.Statement.{statement}
-use Rattle.reserve.proofs.questions.has_lengths.Tie as tie
+use Rattle.model.proofs.Lists.{meet-taken, meet-left}
+use Rattle.year_rows.proofs.RowCounts.{is-rows, not-rows, rows-test}
+use Rattle.year_rows.proofs.questions.has_lengths.Statement.{statement}
+use Rattle.year_rows.proofs.questions.has_lengths.Tie as tie
 
 ages-requires : tie.Need-ages-requires
 ages-requires c κs = search needs

@@ -1,13 +1,13 @@
--- `reserve::questions::has_limits` meets its contract. Assumes nothing.
+-- `year_rows::questions::has_limits` meets its contract. Assumes nothing.
 use mathlib.Core.Bool.{_&&_}
 use mathlib.Core.Logic.{⊎-elim}
 use mathlib.Core.Path.{_≡_, sym, _∙_}
 use borrow.Author.Needs.{needs}
 use Rattle.model.specs.Basics.{all}
 use Rattle.model.specs.Kind.{isAmount, isPaid}
-use Rattle.reserve.proofs.Conjunctions.{meet-taken, meet-left}
-use Rattle.reserve.proofs.questions.has_limits.Statement.{statement}
-use Rattle.reserve.proofs.questions.has_limits.Tie as tie
+use Rattle.model.proofs.Lists.{meet-taken, meet-left}
+use Rattle.year_rows.proofs.questions.has_limits.Statement.{statement}
+use Rattle.year_rows.proofs.questions.has_limits.Tie as tie
 
 all-requires : tie.Need-all-requires
 all-requires c κs = search needs

@@ -1,0 +1,2 @@
+pub mod Grosses
+pub mod RowCounts
