@@ -15,7 +15,7 @@ use lib.Seq.{getD-set-same, getD-set-other}
 use Rattle.model.specs.Letter.{ages}
 use Rattle.model.proofs.Ages.{ages-small}
 use Rattle.reserve.specs.Lists.{statedRows}
-use Rattle.state.specs.declared.lines.Line.{Line}
+use Rattle.line_limits.specs.declared.line.Line.{Line}
 use Rattle.state.specs.Patterns.{factorAt}
 use Rattle.closings.specs.Rows.{Paired, havePatterns, rowFactorOf, FactorsOf}
 

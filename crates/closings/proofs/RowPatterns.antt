@@ -17,7 +17,7 @@ use Rattle.model.specs.Row.{rowsOf}
 use Rattle.model.specs.YearEnd.{rowFactor}
 use Rattle.model.proofs.Ages.{ages-small}
 use Rattle.reserve.proofs.Closings.{RowFactors}
-use Rattle.state.specs.declared.lines.Line.{Line}
+use Rattle.line_limits.specs.declared.line.Line.{Line}
 use Rattle.state.specs.Lines.{Limited}
 use Rattle.state.specs.Patterns.{slotAt, factorIn, keptBack}
 use Rattle.closings.specs.Rows.{havePatterns, rowFactorOf, FactorsOf}

@@ -12,7 +12,7 @@ use Rattle.model.specs.Kind.{isYear}
 use Rattle.model.specs.Book as model
 use Rattle.model.specs.Book.{latest}
 use Rattle.model.specs.Question.{isYearOf, isOpen}
-use Rattle.state.specs.declared.lines.Line.{Line}
+use Rattle.line_limits.specs.declared.line.Line.{Line}
 use Rattle.state.specs.Patterns.{keptBack}
 use Rattle.state.specs.View.{lineOf}
 use Rattle.ledger.proofs.Conditions.{both, some-kept}

@@ -21,7 +21,7 @@ use Rattle.model.proofs.Lists.{and-left, and-right, true≢false}
 use Rattle.year_rows.specs.Limits.{hasLimits}
 use Rattle.reserve.proofs.Verdicts.{limits-of-year}
 use Rattle.state.specs.declared.book.Book.{Book}
-use Rattle.state.specs.declared.lines.Line.{Line}
+use Rattle.line_limits.specs.declared.line.Line.{Line}
 use Rattle.refusal.specs.declared.Refusal.the-variants as refusal
 use Rattle.ledger.specs.declared.answer.Outcome.{Outcome}
 use Rattle.state.specs.Lines.{lineAt}

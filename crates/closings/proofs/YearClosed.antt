@@ -25,7 +25,7 @@ use Rattle.reserve.proofs.Closings.{RowFactors, closing-of-line}
 use Rattle.model.proofs.YearRows.{rows-count}
 use Rattle.reserve.proofs.Verdicts.{limits-of-year, closing-limit, year-end-of-line}
 use Rattle.state.specs.declared.book.Book.{Book}
-use Rattle.state.specs.declared.lines.Line.{Line}
+use Rattle.line_limits.specs.declared.line.Line.{Line}
 use Rattle.ledger.specs.declared.answer.Answer.the-variants as answer
 use Rattle.ledger.specs.declared.answer.Outcome.{Outcome}
 use Rattle.state.specs.Store.{size}

@@ -11,7 +11,7 @@ use Rattle.model.specs.Kind.{isYear}
 use Rattle.model.specs.Letter.{ages}
 use Rattle.model.specs.Call.{closeYear}
 use Rattle.model.specs.Question.{Sound}
-use Rattle.state.specs.declared.lines.Line.{Line}
+use Rattle.line_limits.specs.declared.line.Line.{Line}
 use Rattle.state.specs.Lines.{lineAt}
 use Rattle.closings.specs.Rows.{havePatterns}
 

@@ -10,7 +10,7 @@ use Rattle.model.specs.Basics.{if_then_else_, all}
 use Rattle.model.specs.Letter.{ages}
 use Rattle.model.specs.Row.{gross}
 use Rattle.reserve.specs.Lists.{statedRows}
-use Rattle.state.specs.declared.lines.Line.{Line}
+use Rattle.line_limits.specs.declared.line.Line.{Line}
 use Rattle.state.specs.Patterns.{factorAt}
 
 -- a stated and a disclosed amount for each row

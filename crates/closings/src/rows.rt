@@ -1,6 +1,6 @@
 // The patterns that the rows of a year take.
 use letters::letter::ages;
-use state::lines::Line;
+use line_limits::line::Line;
 use state::patterns::COMPOSITE;
 use state::patterns::factor_in;
 use state::store::Store;

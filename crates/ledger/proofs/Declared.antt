@@ -14,7 +14,7 @@ use Rattle.model.specs.Call.{declare}
 use Rattle.model.specs.Question.{Sound, bookQuestions, firstNo}
 use Rattle.model.specs.Step.{asNumbers, accept}
 use Rattle.state.specs.declared.book.Book.{Book}
-use Rattle.state.specs.declared.lines.Line.{Line}
+use Rattle.line_limits.specs.declared.line.Line.{Line}
 use Rattle.refusal.specs.declared.Refusal.the-variants as refusal
 use Rattle.ledger.specs.declared.answer.Answer.the-variants as answer
 use Rattle.ledger.specs.declared.answer.Outcome.{Outcome}

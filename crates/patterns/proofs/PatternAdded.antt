@@ -25,7 +25,7 @@ use Rattle.refusal.specs.declared.Verdict.the-variants.{Fine}
 use Rattle.factor.specs.declared.pattern.Pattern.{Pattern}
 use Rattle.factor.specs.Pattern.{patternOf}
 use Rattle.state.specs.declared.book.Book.{Book}
-use Rattle.state.specs.declared.lines.Line.{Line}
+use Rattle.line_limits.specs.declared.line.Line.{Line}
 use Rattle.state.specs.Store.{size}
 use Rattle.state.specs.Lines.{Limited, withLineOf, withPatternOf}
 use Rattle.state.specs.Patterns.{slotOf, withSlotOf}

@@ -21,7 +21,7 @@ use Rattle.factor.specs.declared.pattern.Pattern.{Pattern}
 use Rattle.payments.specs.Schedule.{scheduleBy}
 use Rattle.factor.specs.Pattern.{keptOf, patternBy, patternOf}
 use Rattle.state.specs.declared.book.Book.{Book}
-use Rattle.state.specs.declared.lines.Line.{Line}
+use Rattle.line_limits.specs.declared.line.Line.{Line}
 use Rattle.refusal.specs.declared.Refusal.{Refusal}
 use Rattle.refusal.specs.declared.Refusal.the-variants as refusal
 use Rattle.ledger.specs.declared.answer.Outcome.{Outcome}

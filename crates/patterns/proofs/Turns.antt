@@ -17,7 +17,7 @@ use Rattle.model.specs.Book as model
 use Rattle.model.specs.Book.{latest}
 use Rattle.model.specs.Question.{follows}
 use Rattle.model.proofs.Lists.{and-right}
-use Rattle.state.specs.declared.lines.Line.{Line}
+use Rattle.line_limits.specs.declared.line.Line.{Line}
 use Rattle.state.specs.Patterns.{keptBack}
 use Rattle.state.specs.View.{lineOf}
 use Rattle.ledger.proofs.Conditions.{both, some-kept}

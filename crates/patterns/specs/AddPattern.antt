@@ -11,7 +11,7 @@ use Rattle.model.specs.Kind.{isYear}
 use Rattle.model.specs.Call.{addPattern}
 use Rattle.model.specs.Question.{Sound}
 use Rattle.state.specs.declared.book.Book.{Book}
-use Rattle.state.specs.declared.lines.Line.{Line}
+use Rattle.line_limits.specs.declared.line.Line.{Line}
 use Rattle.state.specs.Rates.{ratesOf}
 use Rattle.state.specs.Lines.{lineAt}
 

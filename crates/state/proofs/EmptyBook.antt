@@ -12,9 +12,10 @@ use lib.Seq.{drop-cons, drop-length, set-at}
 use Rattle.model.specs.Kind.{isYear}
 use Rattle.model.specs.Letter.{covered}
 use Rattle.model.specs.Book as model
+use Rattle.line_limits.specs.Limits.{limitedOf}
 use Rattle.state.specs.Rates.{ratesOf}
 use Rattle.state.specs.Store.{piece, size}
-use Rattle.state.specs.Lines.{lineStart, noLine, lineIn, limitedOf, lineAt}
+use Rattle.state.specs.Lines.{lineStart, noLine, lineIn, lineAt}
 use Rattle.state.specs.Patterns.{keptBack}
 use Rattle.state.specs.View.{lineOf, linesOf, view, emptyBook, emptyStore}
 use Rattle.state.proofs.Pieces as pieces

@@ -16,7 +16,7 @@ use Rattle.model.specs.Factor.{keptFactors}
 use Rattle.model.specs.Composite.{composite}
 use Rattle.model.specs.Step.{keptPattern, withPattern}
 use Rattle.model.proofs.Ages.{ages-small}
-use Rattle.state.specs.declared.lines.Line.{Line}
+use Rattle.line_limits.specs.declared.line.Line.{Line}
 use Rattle.state.specs.Store.{size}
 use Rattle.state.specs.Lines.{Limited, withLineOf, withPatternOf}
 use Rattle.state.specs.Patterns.{patternAt, keptBack, slotOf, withSlotOf}

@@ -8,7 +8,7 @@ use native.Mathlib.Omega.{arith}
 use borrow.Author.Tests.{eq-eqb, ne-eqb}
 use Rattle.model.specs.Book.{find}
 use Rattle.model.proofs.Ages.{ages-small}
-use Rattle.state.specs.declared.lines.Line.{Line}
+use Rattle.line_limits.specs.declared.line.Line.{Line}
 use Rattle.state.specs.Lines.{Limited}
 use Rattle.state.specs.Patterns.{patternAt, keptBack}
 use Rattle.state.proofs.Limited.{few-kept, last-year}

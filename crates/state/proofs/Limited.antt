@@ -12,9 +12,10 @@ use Rattle.model.specs.Kind.{isYear}
 use Rattle.model.specs.Letter.{covered, ages}
 use Rattle.model.proofs.Ages.{ages-positive}
 use Rattle.model.proofs.Lists.{and-left, and-right, true≢false}
-use Rattle.state.specs.declared.lines.Line.{Line}
+use Rattle.line_limits.specs.declared.line.Line.{Line}
+use Rattle.line_limits.specs.Limits.{openingIn, closingIn, keptIn, closedIn, limitedOf}
 use Rattle.state.specs.Store.{piece}
-use Rattle.state.specs.Lines.{lineStart, noLine, lineIn, openingIn, closingIn, keptIn, closedIn, limitedOf, Limited, lineAt, newLine, withPatternOf, withClosingOf}
+use Rattle.state.specs.Lines.{lineStart, noLine, lineIn, Limited, lineAt, newLine, withPatternOf, withClosingOf}
 
 few-by : (t : Bool) (cell n kept : ℕ) → (if t then min cell n else 0) ≡ kept → kept ≤ n
 few-by true cell n kept e = omega arith

@@ -10,9 +10,10 @@ use lib.Dec.{ltb}
 use lib.ListN.{length, take, drop}
 use Rattle.model.specs.Basics.{if_then_else_}
 use Rattle.model.specs.Letter.{covered}
-use Rattle.state.specs.declared.lines.Line.{Line}
+use Rattle.line_limits.specs.declared.line.Line.{Line}
+use Rattle.line_limits.specs.Limits.{limitedOf}
 use Rattle.state.specs.Store.{piece, written, size}
-use Rattle.state.specs.Lines.{placeOf, lineStart, noLine, lineIn, cellsOf, limitedOf, Limited, lineAt, withLineOf}
+use Rattle.state.specs.Lines.{placeOf, lineStart, noLine, lineIn, cellsOf, Limited, lineAt, withLineOf}
 use Rattle.state.specs.Patterns.{slotStart, slotAt}
 use Rattle.state.proofs.Places.{covered-place, places-differ}
 use Rattle.state.proofs.Pieces as pieces

@@ -11,7 +11,7 @@ use Rattle.model.specs.Basics.{if_then_else_, given, put}
 use Rattle.model.specs.Kind.{isYear}
 use Rattle.model.specs.Letter.{covered}
 use Rattle.model.proofs.Lists.{put-all}
-use Rattle.state.specs.declared.lines.Line.{Line}
+use Rattle.line_limits.specs.declared.line.Line.{Line}
 use Rattle.state.specs.Store.{size}
 use Rattle.state.specs.Hints.{withHintOf}
 use Rattle.state.specs.Lines.{Limited, lineAt, withLineOf}

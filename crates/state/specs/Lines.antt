@@ -1,15 +1,15 @@
 -- The lines of the covered letters in the store, each at its place, and each cell read through its limit.
 -- Assumes nothing: these are definitions.
-use mathlib.Core.Bool.{true, false, _&&_}
+use mathlib.Core.Bool.{true, false}
 use mathlib.Core.List.{List, [], _∷_}
 use mathlib.Core.Path.{_≡_}
 use Prim.Native.Nat.{ℕ, _+_, _-_, _*_, min}
 use lib.Dec.{leb, ltb}
 use lib.ListN.{getD}
 use Rattle.model.specs.Basics.{if_then_else_}
-use Rattle.model.specs.Kind.{isYear}
 use Rattle.model.specs.Letter.{covered, ages}
-use Rattle.state.specs.declared.lines.Line.{Line}
+use Rattle.line_limits.specs.declared.line.Line.{Line}
+use Rattle.line_limits.specs.Limits.{limitedOf}
 use Rattle.state.specs.Store.{piece, written}
 
 -- A to L (76) have the first twelve places, and R to T the next three
@@ -31,34 +31,6 @@ lineIn cells =
 
 abbrev pub cellsOf : Line → List ℕ
 cellsOf line = (if line .declared then 1 else 0) ∷ line .opening ∷ line .closed ∷ line .closing ∷ line .last ∷ line .kept ∷ []
-
--- what lies past its limit is read as the limit
-abbrev pub openingIn : ℕ → ℕ
-openingIn cell = min cell 100000000000
-
-abbrev pub closingIn : ℕ → ℕ
-closingIn cell = min cell 110000000000
-
--- how many patterns are kept: none where the year of the last one is no year, and at most ten, or two
-abbrev pub keptIn : ℕ → ℕ → ℕ → ℕ
-keptIn letter last cell = if isYear last then min cell (ages letter) else 0
-
--- the last closed year, or 0: it is read only where a pattern is kept, and not after that pattern's year
-abbrev pub closedIn : ℕ → ℕ → ℕ → ℕ
-closedIn cell last kept = if isYear cell && ltb 0 kept && leb cell last then cell else 0
-
--- a line as it is read: each cell through its limit
-unfoldable pub limitedOf : ℕ → Line → Line
-limitedOf letter line =
-    let kept = keptIn letter (line .last) (line .kept) in
-    record {
-      declared = line .declared;
-      opening = openingIn (line .opening);
-      closed = closedIn (line .closed) (line .last) kept;
-      closing = closingIn (line .closing);
-      last = line .last;
-      kept = kept;
-    }
 
 -- a line within its limits is read as it is
 abbrev pub Limited : ℕ → Line → Type 0

@@ -8,7 +8,7 @@ use Rattle.model.specs.Basics.{if_then_else_}
 use Rattle.model.specs.Kind.{isYear}
 use Rattle.model.specs.Book as model
 use Rattle.state.specs.declared.book.Book.{Book}
-use Rattle.state.specs.declared.lines.Line.{Line}
+use Rattle.line_limits.specs.declared.line.Line.{Line}
 use Rattle.state.specs.Store.{size}
 use Rattle.state.specs.Rates.{ratesOf}
 use Rattle.state.specs.Lines.{lineAt}

@@ -1,27 +1,15 @@
 // The lines of the covered letters, in the store.
 use crate::cells::line_start;
 use crate::cells::write;
-use crate::limits::limited;
 use crate::store::LINE_CELLS;
 use crate::store::Store;
 use letters::letter::is_covered;
+use line_limits::limits::limited;
+use line_limits::line::Line;
 ghost use mathlib.Core.Path.{_≡_};
 ghost use lib.ListN.{length};
 ghost use Rattle.state.specs.Store.{size};
 ghost use Rattle.state.specs.Lines.{lineIn, lineAt, cellsOf, withLineOf};
-
-pub struct Line {
-    pub declared: bool,
-    pub opening: u64,
-    // The last closed year, or 0 where there is none.
-    pub closed: u64,
-    // The closing of that year.
-    pub closing: u64,
-    // The accident year of the last pattern.
-    pub last: u64,
-    // How many patterns are kept: of that year and the years before it.
-    pub kept: u64,
-}
 
 // A letter's line. A letter that is not covered has an undeclared one.
 pub fn line_of(store: &Store, letter: u8) -> Line

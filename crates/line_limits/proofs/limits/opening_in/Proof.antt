@@ -1,8 +1,8 @@
--- `state::limits::opening_in` meets its contract. Assumes nothing.
+-- `line_limits::limits::opening_in` meets its contract. Assumes nothing.
 use borrow.Author.Needs.{needs}
-use Rattle.state.proofs.CellLimits.{opening-read, opening-past}
-use Rattle.state.proofs.limits.opening_in.Statement.{statement}
-use Rattle.state.proofs.limits.opening_in.Tie as tie
+use Rattle.line_limits.proofs.LimitsRead.{opening-read, opening-past}
+use Rattle.line_limits.proofs.limits.opening_in.Statement.{statement}
+use Rattle.line_limits.proofs.limits.opening_in.Tie as tie
 
 new-requires : tie.Need-new-requires
 new-requires c κs = search needs

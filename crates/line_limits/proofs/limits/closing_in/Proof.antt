@@ -1,8 +1,8 @@
--- `state::limits::closing_in` meets its contract. Assumes nothing.
+-- `line_limits::limits::closing_in` meets its contract. Assumes nothing.
 use borrow.Author.Needs.{needs}
-use Rattle.state.proofs.CellLimits.{closing-read, closing-past}
-use Rattle.state.proofs.limits.closing_in.Statement.{statement}
-use Rattle.state.proofs.limits.closing_in.Tie as tie
+use Rattle.line_limits.proofs.LimitsRead.{closing-read, closing-past}
+use Rattle.line_limits.proofs.limits.closing_in.Statement.{statement}
+use Rattle.line_limits.proofs.limits.closing_in.Tie as tie
 
 new-requires : tie.Need-new-requires
 new-requires c κs = search needs

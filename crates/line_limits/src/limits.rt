@@ -1,5 +1,5 @@
 // The cells of a line read through their limits.
-use crate::lines::Line;
+use crate::line::Line;
 use kinds::year::is_year;
 use letters::letter::ages;
 use money::closing::Closing;
@@ -7,7 +7,7 @@ use money::closing::MaybeClosing;
 use money::opening::MaybeOpening;
 use money::opening::Opening;
 ghost use mathlib.Core.Path.{_≡_};
-ghost use Rattle.state.specs.Lines.{openingIn, closingIn, keptIn, closedIn, limitedOf};
+ghost use Rattle.line_limits.specs.Limits.{openingIn, closingIn, keptIn, closedIn, limitedOf};
 
 // A line as it is read: each cell through its limit.
 pub fn limited(letter: u8, line: Line) -> Line

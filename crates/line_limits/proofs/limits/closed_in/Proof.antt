@@ -1,8 +1,8 @@
--- `state::limits::closed_in` meets its contract. Assumes nothing.
-use Rattle.state.proofs.CellLimits.{none-open, closed-after, closed-read, none-closed}
+-- `line_limits::limits::closed_in` meets its contract. Assumes nothing.
+use Rattle.line_limits.proofs.LimitsRead.{none-open, closed-after, closed-read, none-closed}
 use borrow.Author.Needs.{needs}
-use Rattle.state.proofs.limits.closed_in.Statement.{statement}
-use Rattle.state.proofs.limits.closed_in.Tie as tie
+use Rattle.line_limits.proofs.limits.closed_in.Statement.{statement}
+use Rattle.line_limits.proofs.limits.closed_in.Tie as tie
 
 returns : tie.Need-returns
 returns c = search none-open

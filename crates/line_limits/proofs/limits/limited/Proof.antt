@@ -1,8 +1,8 @@
--- `state::limits::limited` meets its contract. Assumes nothing.
-use Rattle.state.proofs.CellLimits.{limited-read}
+-- `line_limits::limits::limited` meets its contract. Assumes nothing.
+use Rattle.line_limits.proofs.LimitsRead.{limited-read}
 use borrow.Author.Needs.{needs}
-use Rattle.state.proofs.limits.limited.Statement.{statement}
-use Rattle.state.proofs.limits.limited.Tie as tie
+use Rattle.line_limits.proofs.limits.limited.Statement.{statement}
+use Rattle.line_limits.proofs.limits.limited.Tie as tie
 
 kept-in-requires : tie.Need-kept-in-requires
 kept-in-requires c κs = search needs

@@ -1,8 +1,8 @@
--- `state::limits::kept_in` meets its contract. Assumes nothing.
-use Rattle.state.proofs.CellLimits.{kept-as-read, kept-all, none-kept}
+-- `line_limits::limits::kept_in` meets its contract. Assumes nothing.
+use Rattle.line_limits.proofs.LimitsRead.{kept-as-read, kept-all, none-kept}
 use borrow.Author.Needs.{needs}
-use Rattle.state.proofs.limits.kept_in.Statement.{statement}
-use Rattle.state.proofs.limits.kept_in.Tie as tie
+use Rattle.line_limits.proofs.limits.kept_in.Statement.{statement}
+use Rattle.line_limits.proofs.limits.kept_in.Tie as tie
 
 is-year-requires : tie.Need-is-year-requires
 is-year-requires c κs = search needs

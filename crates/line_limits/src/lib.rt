@@ -1,0 +1,3 @@
+// What the book holds of a line, and the limits that its figures are read through.
+pub mod limits;
+pub mod line;
