@@ -137,8 +137,12 @@ fn rounding_hides_one(paid: u64, incurred: u64) -> bool {
 }
 
 /// Cumulative ratios that do not fall: mostly large payments and a tail of 0.1
-/// to 60 percent; now and then nothing, everything or little paid by some age.
+/// to 60 percent; now and then nothing, everything or little paid by some age,
+/// and often nothing in the last year.
 fn cumulative_billionths(random: &mut Random, ages: usize) -> Vec<u64> {
+    if ages == 10 && random.once_in(10) {
+        return with_small_last_payments(random);
+    }
     let unpaid = match random.below(10) {
         0 => 0,
         1 => random.between(900_000_000, 1_000_000_000),
@@ -149,8 +153,8 @@ fn cumulative_billionths(random: &mut Random, ages: usize) -> Vec<u64> {
         let place = random.place(ages);
         weights[place..].fill(0);
     }
-    if random.once_in(8) {
-        weights[ages - 1] = random.below(3);
+    if random.once_in(5) {
+        stop_in_last_year(random, &mut weights);
     }
     let all_weights = weights.iter().sum::<u64>().max(1);
     let mut weight_so_far = 0;
@@ -158,6 +162,31 @@ fn cumulative_billionths(random: &mut Random, ages: usize) -> Vec<u64> {
     for weight in weights {
         weight_so_far += weight;
         cumulative.push((1_000_000_000 - unpaid) * weight_so_far / all_weights);
+    }
+    cumulative
+}
+
+/// Nothing is paid in the last year, and now and then nothing in one or both of
+/// the two years before it.
+fn stop_in_last_year(random: &mut Random, weights: &mut [u64]) {
+    let ages = weights.len();
+    weights[ages - 1] = 0;
+    for weight in &mut weights[ages.saturating_sub(3)..ages - 1] {
+        if random.once_in(3) {
+            *weight = 0;
+        }
+    }
+}
+
+/// Ten cumulative ratios: nearly all is paid in the first year, a few half
+/// units at ages 8 and 9, and nothing at age 10.
+fn with_small_last_payments(random: &mut Random) -> Vec<u64> {
+    let mut cumulative = vec![1_000_000_000 - 10 * random.between(20, 60); 10];
+    for place in [7, 8] {
+        let payment = 10 * random.below(5);
+        for later in &mut cumulative[place..] {
+            *later += payment;
+        }
     }
     cumulative
 }

@@ -40,7 +40,10 @@ impl Pattern {
         }
         let unpaid = WHOLE - cumulative_before;
         match kind {
-            LineKind::TenYear => payments.extend(ten_year_tail(unpaid, payments[9])),
+            LineKind::TenYear => {
+                let cap = tail_cap([payments[7], payments[8], payments[9]]);
+                payments.extend(ten_year_tail(unpaid, cap));
+            }
             LineKind::TwoYear => payments.extend(two_year_tail(unpaid)),
         }
         Pattern { payments }
@@ -63,13 +66,24 @@ impl Pattern {
     }
 }
 
-/// "Ten-year tail: ages 11 to 15 each pay the smaller of the payment at age 10
-/// and what is unpaid before them. Age 16 pays the rest."
-pub fn ten_year_tail(unpaid_after_ten: u64, tenth_payment: u64) -> [u64; 6] {
+/// What ages 11 to 15 pay at most, by the payments at ages 8, 9 and 10: "where
+/// the payment at age 10 is 0, the cap for ages 11 to 15 is the mean of the
+/// payments at ages 8, 9 and 10, rounded down to a half unit" (document 02,
+/// F-1).
+pub fn tail_cap(last_payments: [u64; 3]) -> u64 {
+    match last_payments[2] {
+        0 => last_payments.iter().sum::<u64>() / 3,
+        tenth_payment => tenth_payment,
+    }
+}
+
+/// "Ten-year tail: ages 11 to 15 each pay the smaller of the payment at age 10"
+/// (by F-1: of the cap) "and what is unpaid before them. Age 16 pays the rest."
+pub fn ten_year_tail(unpaid_after_ten: u64, cap: u64) -> [u64; 6] {
     let mut tail = [0; 6];
     let mut unpaid = unpaid_after_ten;
     for payment in &mut tail[..5] {
-        *payment = tenth_payment.min(unpaid);
+        *payment = cap.min(unpaid);
         unpaid -= *payment;
     }
     tail[5] = unpaid;

@@ -5,7 +5,7 @@ mod common;
 use common::{discounted, ratio};
 use reference::factor::{half_year_factor, kept_factors};
 use reference::kinds::LineKind;
-use reference::pattern::{ten_year_tail, Pattern};
+use reference::pattern::{tail_cap, ten_year_tail, Pattern};
 use reference::rate::accident_year_rate;
 
 /// Sixty monthly rates with that sum.
@@ -15,9 +15,11 @@ fn rates_with_sum(sum: u64) -> Vec<u64> {
     rates
 }
 
-/// The tail in millions of half units.
-fn tail_in_millions(unpaid: u64, tenth_payment: u64) -> [u64; 6] {
-    ten_year_tail(unpaid * 1_000_000, tenth_payment * 1_000_000).map(|payment| payment / 1_000_000)
+/// The tail by what is unpaid after age 10 and the payments at ages 8, 9 and
+/// 10, all in millions of half units.
+fn tail_in_millions(unpaid: u64, last_payments: [u64; 3]) -> [u64; 6] {
+    let cap = tail_cap(last_payments.map(|payment| payment * 1_000_000));
+    ten_year_tail(unpaid * 1_000_000, cap).map(|payment| payment / 1_000_000)
 }
 
 #[test]
@@ -51,9 +53,12 @@ fn p6_and_p7_ratios() {
 
 #[test]
 fn p8_to_p10_tails() {
-    assert_eq!(tail_in_millions(14, 4), [4, 4, 4, 2, 0, 0]);
-    assert_eq!(tail_in_millions(40, 4), [4, 4, 4, 4, 4, 20]);
-    assert_eq!(tail_in_millions(10, 0), [0, 0, 0, 0, 0, 10]);
+    for earlier in [0, 4, 7] {
+        let last_payments = [earlier, earlier, 4];
+        assert_eq!(tail_in_millions(14, last_payments), [4, 4, 4, 2, 0, 0]);
+        assert_eq!(tail_in_millions(40, last_payments), [4, 4, 4, 4, 4, 20]);
+    }
+    assert_eq!(tail_in_millions(10, [0, 0, 0]), [0, 0, 0, 0, 0, 10]);
 }
 
 #[test]

@@ -134,6 +134,9 @@ struct Variety {
     patterns: BTreeMap<Letter, usize>,
     closings: BTreeMap<Letter, usize>,
     with_tail: usize,
+    tenth_paid_nothing: usize,
+    tail_of_a_mean: usize,
+    tail_of_few_half_units: usize,
     negative_paid: usize,
     tabular_discounts: usize,
     highest_amounts: usize,
@@ -162,6 +165,12 @@ impl Variety {
                 let unpaid = kept.pattern.unpaid(ages);
                 let all_paid_something = (1..=ages).all(|age| kept.pattern.payment(age) > 0);
                 self.with_tail += usize::from(unpaid > 0 && all_paid_something);
+                if ages == 10 && unpaid > 0 && kept.pattern.payment(10) == 0 {
+                    let eleventh = kept.pattern.payment(11);
+                    self.tenth_paid_nothing += 1;
+                    self.tail_of_a_mean += usize::from(eleventh > 0);
+                    self.tail_of_few_half_units += usize::from((1..6).contains(&eleventh));
+                }
             }
             Request::Year { letter, rows, .. } => {
                 *self.closings.entry(*letter).or_default() += 1;
@@ -185,7 +194,10 @@ fn the_accepted_records_vary() {
         let mut book = Book::default();
         let variety = Variety::of(&random_stream(seed, RECORDS), &mut book);
         let patterns: usize = variety.patterns.values().sum();
-        assert!(variety.with_tail * 10 > patterns * 6, "seed {seed}");
+        assert!(variety.with_tail * 2 > patterns, "seed {seed}");
+        let without_mean = variety.tenth_paid_nothing - variety.tail_of_a_mean;
+        assert!(variety.tail_of_a_mean > 15 && without_mean > 10);
+        assert!(variety.tail_of_few_half_units > 2, "seed {seed}");
         let ten_year = |letter: &&Letter| letter.kind() == LineKind::TenYear;
         let long_lines = variety.patterns.keys().filter(ten_year);
         assert!(

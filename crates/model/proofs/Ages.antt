@@ -12,7 +12,7 @@ use Rattle.model.specs.Basics.{if_then_else_, lastOr}
 use Rattle.model.specs.Letter.{ages, tenYear}
 use Rattle.model.specs.HalfYear.{halfYear}
 use Rattle.model.specs.Pattern.{Age, agesOf, cumulative, payments, whole}
-use Rattle.model.specs.Tail.{tenYearTail, twoYearTail, schedule}
+use Rattle.model.specs.Tail.{tenYearTail, twoYearTail, paymentAt, schedule}
 use Rattle.model.specs.Factor.{factor, factors, keptFactors}
 use Rattle.model.specs.Near.{FactorNear}
 use Rattle.model.specs.Demand.{unpaidAt, exactAt}
@@ -65,12 +65,13 @@ pub schedule-sized : (letter : ℕ) (given : List Age) → length given ≡ ages
 unfolding schedule ages
 schedule-sized letter given e =
     let cumulatives : List ℕ = map cumulative given in
-    let n : length (payments 0 cumulatives) ≡ length given = length-payments 0 cumulatives ∙ length-map given cumulative in
-    record { long = rw length-append (omega arith); short = rw length-append (by-kind (tenYear letter) (length (payments 0 cumulatives)) (lastOr 0 (payments 0 cumulatives)) (whole - lastOr 0 cumulatives) (n ∙ e)) }
+    let paid : List ℕ = payments 0 cumulatives in
+    let n : length paid ≡ length given = length-payments 0 cumulatives ∙ length-map given cumulative in
+    record { long = rw length-append (omega arith); short = rw length-append (by-kind (tenYear letter) (length paid) (paymentAt 8 paid) (paymentAt 9 paid) (paymentAt 10 paid) (whole - lastOr 0 cumulatives) (n ∙ e)) }
   where
-    by-kind : (t : Bool) (n p left : ℕ) → n ≡ (if t then 10 else 2) → n + length (if t then tenYearTail p left else twoYearTail left) ≤ 16
-    by-kind true n p left e = omega arith
-    by-kind false n p left e = omega arith
+    by-kind : (t : Bool) (n eighth ninth tenth left : ℕ) → n ≡ (if t then 10 else 2) → n + length (if t then tenYearTail eighth ninth tenth left else twoYearTail left) ≤ 16
+    by-kind true n eighth ninth tenth left e = omega arith
+    by-kind false n eighth ninth tenth left e = omega arith
 
 -- an age with something unpaid is one of the pattern's
 is-age : (pay : List ℕ) (k : ℕ) → 0 < unpaidAt k pay → k < length pay

@@ -23,5 +23,6 @@ pub mod Rows
 pub mod Sample
 pub mod Sharp
 pub mod Steps
+pub mod Tail
 pub mod Unpaid
 pub mod YearRows

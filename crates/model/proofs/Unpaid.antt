@@ -12,7 +12,7 @@ use lib.ListN.{length, take, drop, getD, take-append-drop}
 use Rattle.model.specs.Basics.{if_then_else_, all, lastOr, sum}
 use Rattle.model.specs.Letter.{tenYear}
 use Rattle.model.specs.Pattern.{Age, cumulativeRatio, cumulative, payments, whole}
-use Rattle.model.specs.Tail.{capped, tenYearTail, twoYearTail, schedule}
+use Rattle.model.specs.Tail.{capped, tailCap, tenYearTail, twoYearTail, paymentAt, schedule}
 use Rattle.model.specs.Question.{isIncurred, climbsFrom}
 use Rattle.model.specs.Demand.{unpaidAt}
 use Rattle.model.proofs.Lists.{and-left, and-right, sum-append}
@@ -22,12 +22,12 @@ capped-all : (n cap left : ℕ) → sum (capped n cap left) ≡ left
 capped-all zero cap left = omega arith
 capped-all (suc n) cap left = omega (arith, capped-all n cap (left - min cap left))
 
-tail-all : (t : Bool) (cap k : ℕ) → sum (if t then tenYearTail cap (2 * k) else twoYearTail (2 * k)) ≡ 2 * k
-tail-all true cap k = capped-all 5 cap (2 * k)
-tail-all false cap k = omega arith
+tail-all : (t : Bool) (eighth ninth tenth k : ℕ) → sum (if t then tenYearTail eighth ninth tenth (2 * k) else twoYearTail (2 * k)) ≡ 2 * k
+tail-all true eighth ninth tenth k = capped-all 5 (tailCap eighth ninth tenth) (2 * k)
+tail-all false eighth ninth tenth k = omega arith
 
 -- the payments of some ages and the cumulative before them add up to the last cumulative
-payments-from : (b : ℕ) (given : List Age) → climbsFrom b (map cumulativeRatio given) ≡ true → sum (payments (2 * b) (map cumulative given)) + 2 * b ≡ lastOr (2 * b) (map cumulative given)
+pub payments-from : (b : ℕ) (given : List Age) → climbsFrom b (map cumulativeRatio given) ≡ true → sum (payments (2 * b) (map cumulative given)) + 2 * b ≡ lastOr (2 * b) (map cumulative given)
 payments-from b [] q = omega arith
 payments-from b (a ∷ given) q =
     let rest : Bool = climbsFrom (cumulativeRatio a) (map cumulativeRatio given) in
@@ -75,14 +75,16 @@ module _ (letter : ℕ) (given : List Age) (q11 : all isIncurred given ≡ true)
 
   abbrev tail : List ℕ
   tail =
+      let paid = payments 0 cumulatives in
       let left = whole - lastOr 0 cumulatives in
-      if tenYear letter then tenYearTail (lastOr 0 (payments 0 cumulatives)) left else twoYearTail left
+      if tenYear letter then tenYearTail (paymentAt 8 paid) (paymentAt 9 paid) (paymentAt 10 paid) left else twoYearTail left
 
   tail-is : sum tail + lastOr 0 cumulatives ≡ whole
   tail-is =
       let h = last-half 0 given (omega arith) q11 in
       let left : whole - lastOr 0 cumulatives ≡ 2 * (100000000 - h .half) = omega arith in
-      omega (arith, rw (← left) at (tail-all (tenYear letter) (lastOr 0 (payments 0 cumulatives)) (100000000 - h .half)))
+      let paid : List ℕ = payments 0 cumulatives in
+      omega (arith, rw (← left) at (tail-all (tenYear letter) (paymentAt 8 paid) (paymentAt 9 paid) (paymentAt 10 paid) (100000000 - h .half)))
 
   -- the payments of a pattern are a whole together
   pub payments-are-whole : sum (schedule letter given) ≡ whole

@@ -1,8 +1,9 @@
--- Document 01, "Marked facts": P1 to P13.
+-- Document 01, "Marked facts": P1 to P13; P10 as document 02, F-1, has it.
 -- Assumes nothing: these are definitions.
 use mathlib.Core.Path.{_≡_}
 use mathlib.Core.List.{[], _∷_, _++_}
 use Prim.Native.Char.{code}
+use Prim.Native.Nat.{ℕ}
 use lib.ListN.{replicate}
 use Rattle.model.specs.Rate.{rateOf}
 use Rattle.model.specs.HalfYear.{halfYear}
@@ -20,9 +21,11 @@ pub record Facts : Type 0 where
   pub p5 : rateOf (replicate 58 150 ++ (149 ∷ 0 ∷ [])) ≡ 147
   pub p6 : cumulativeRatio (age 1 3) ≡ 33333333
   pub p7 : cumulativeRatio (age 2 3) ≡ 66666667
-  pub p8 : tenYearTail 4000000 14000000 ≡ 4000000 ∷ 4000000 ∷ 4000000 ∷ 2000000 ∷ 0 ∷ 0 ∷ []
-  pub p9 : tenYearTail 4000000 40000000 ≡ 4000000 ∷ 4000000 ∷ 4000000 ∷ 4000000 ∷ 4000000 ∷ 20000000 ∷ []
-  pub p10 : tenYearTail 0 10000000 ≡ 0 ∷ 0 ∷ 0 ∷ 0 ∷ 0 ∷ 10000000 ∷ []
+  -- whatever was paid at ages 8 and 9
+  pub p8 : (eighth ninth : ℕ) → tenYearTail eighth ninth 4000000 14000000 ≡ 4000000 ∷ 4000000 ∷ 4000000 ∷ 2000000 ∷ 0 ∷ 0 ∷ []
+  pub p9 : (eighth ninth : ℕ) → tenYearTail eighth ninth 4000000 40000000 ≡ 4000000 ∷ 4000000 ∷ 4000000 ∷ 4000000 ∷ 4000000 ∷ 20000000 ∷ []
+  -- "Fact P10 gains the two earlier payments, both 0."
+  pub p10 : tenYearTail 0 0 0 10000000 ≡ 0 ∷ 0 ∷ 0 ∷ 0 ∷ 0 ∷ 10000000 ∷ []
   pub p11 : discounted (stated 30 10) 900000 ≡ 30
   pub p12 : discounted (stated 10000 1000) 850000 ≡ 9350
   -- "kept factors of the run"

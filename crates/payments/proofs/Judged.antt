@@ -3,17 +3,19 @@
 use mathlib.Core.Path.{_≡_, refl, sym, _∙_}
 use mathlib.Core.Bool.{Bool, true, false}
 use mathlib.Core.List.{List, [], _∷_, _++_, map, append-nil}
-use Prim.Native.Nat.{ℕ, zero, suc, _-_, _*_, _<_}
+use Prim.Native.Nat.{ℕ, _-_, _*_, _≤_}
 use native.Mathlib.Omega.{arith}
 use borrow.Author.Tests.{eq-eqb, ne-eqb}
-use lib.ListN.{length, take, getD, replicate}
-use Rattle.model.specs.Basics.{if_then_else_, all, lastOr}
+use lib.ListN.{length, take, replicate}
+use lib.Seq.{getD-take}
+use Rattle.model.specs.Basics.{if_then_else_, all, lastOr, sum}
 use Rattle.model.specs.Kind.{isAmount}
 use Rattle.model.specs.Letter.{covered, tenYear, ages}
 use Rattle.model.specs.Pattern.{agesOf, cumulative, payments}
-use Rattle.model.specs.Tail.{tenYearTail, twoYearTail, schedule}
+use Rattle.model.specs.Tail.{tenYearTail, twoYearTail, paymentAt, schedule}
 use Rattle.model.specs.Question.{isIncurred}
 use Rattle.model.proofs.Ages.{ages-small}
+use Rattle.model.proofs.Unpaid.{payments-from}
 use Rattle.payments.specs.declared.schedule.Schedule.{Schedule}
 use Rattle.refusal.specs.Number.{refusalOf}
 use Rattle.refusal.specs.declared.Refusal.the-variants.{UncoveredLetter, WrongCount, OutsideLimits, IncurredTooSmall, RatioFalls}
@@ -28,34 +30,42 @@ paired letter paid incurred g = record { same = omega (arith, g .paid-length, g 
 pub payable : (letter : ℕ) (paid incurred : List ℕ) → Listed letter paid incurred → all isIncurred (agesOf paid incurred) ≡ true → Payable paid incurred
 payable letter paid incurred g q = record { pairs = paired letter paid incurred g; amounts = g .incurred-amounts; sound = q }
 
--- the last of the first n + 1
-last-taken : (d : ℕ) (l : List ℕ) (n : ℕ) → n < length l → lastOr d (take (suc n) l) ≡ getD l n 0
-last-taken d [] n lt = absurd (omega arith)
-last-taken d (x ∷ l) zero lt = refl
-last-taken d (x ∷ l) (suc n) lt = last-taken x l n (omega arith)
-
 -- the payments of the ages and their tail are document 01's schedule
 module _ (letter : ℕ) (paid incurred pay : List ℕ) (last : ℕ) (climbs : Bool) (t : climbs ≡ true) (g : Listed letter paid incurred) (s : Paid paid incurred climbs pay last) where
   abbrev cumulatives : List ℕ
   cumulatives = map cumulative (agesOf paid incurred)
 
+  abbrev given : List ℕ
+  given = payments 0 cumulatives
+
   by-kind : (ten : Bool) → length paid ≡ (if ten then 10 else 2)
-      → (if ten then take 10 pay ++ tenYearTail (getD pay 9 0) (200000000 - 2 * last) else take 2 pay ++ twoYearTail (200000000 - 2 * last))
-      ≡ payments 0 cumulatives ++ (if ten then tenYearTail (lastOr 0 (payments 0 cumulatives)) (200000000 - lastOr 0 cumulatives) else twoYearTail (200000000 - lastOr 0 cumulatives))
+      → (if ten then take 10 pay ++ tenYearTail (paymentAt 8 pay) (paymentAt 9 pay) (paymentAt 10 pay) (200000000 - 2 * last) else take 2 pay ++ twoYearTail (200000000 - 2 * last))
+      ≡ given ++ (if ten then tenYearTail (paymentAt 8 given) (paymentAt 9 given) (paymentAt 10 given) (200000000 - lastOr 0 cumulatives) else twoYearTail (200000000 - lastOr 0 cumulatives))
   by-kind true e =
-      let p : take 10 pay ≡ payments 0 cumulatives = rw e at (s .by-age t) in
-      rw (← s .in-all t, ← p, last-taken 0 pay 9 (omega (arith, s .places)))
+      let p : take 10 pay ≡ given = rw e at (s .by-age t) in
+      rw (← s .in-all t, ← p, getD-take 10 pay 7 0 (omega arith), getD-take 10 pay 8 0 (omega arith), getD-take 10 pay 9 0 (omega arith))
   by-kind false e =
-      let p : take 2 pay ≡ payments 0 cumulatives = rw e at (s .by-age t) in
+      let p : take 2 pay ≡ given = rw e at (s .by-age t) in
       rw (← s .in-all t, ← p)
+
+  -- the payments at the given ages are at most a whole
+  pub given-small : sum (take (ages letter) pay) ≤ 200000000
+  given-small =
+      let p : take (ages letter) pay ≡ given = rw (g .paid-length) at (s .by-age t) in
+      rw p (omega (arith, payments-from 0 (agesOf paid incurred) (sym (s .climbing) ∙ t), s .in-all t, s .small))
 
   pub schedule-is : tailed letter pay (200000000 - 2 * last) ≡ schedule letter (agesOf paid incurred)
   unfolding schedule ages
   schedule-is = by-kind (tenYear letter) (g .paid-length)
 
+-- a ten-year line has ten ages
+pub ten-small : (letter : ℕ) (pay : List ℕ) (t : Bool) → t ≡ tenYear letter → t ≡ true → sum (take (ages letter) pay) ≤ 200000000 → sum (take 10 pay) ≤ 200000000
+unfolding ages
+ten-small letter pay t et e le = rw (sym et ∙ e) at le
+
 -- the payments with their tail, in their places
-pub ten-tailed : (letter : ℕ) (pay r : List ℕ) (u : ℕ) → tenYear letter ≡ true → r ≡ take 10 pay ++ tenYearTail (getD pay 9 0) u → r ≡ inPlaces letter (tailed letter pay u)
-ten-tailed letter pay r u t e = rw t (e ∙ sym (append-nil (take 10 pay ++ tenYearTail (getD pay 9 0) u)))
+pub ten-tailed : (letter : ℕ) (pay r : List ℕ) (u : ℕ) → tenYear letter ≡ true → r ≡ take 10 pay ++ tenYearTail (paymentAt 8 pay) (paymentAt 9 pay) (paymentAt 10 pay) u → r ≡ inPlaces letter (tailed letter pay u)
+ten-tailed letter pay r u t e = rw t (e ∙ sym (append-nil (take 10 pay ++ tenYearTail (paymentAt 8 pay) (paymentAt 9 pay) (paymentAt 10 pay) u)))
 
 pub two-tailed : (letter : ℕ) (pay r : List ℕ) (u : ℕ) → tenYear letter ≡ false → r ≡ take 2 pay ++ twoYearTail u ++ replicate 12 0 → r ≡ inPlaces letter (tailed letter pay u)
 two-tailed letter pay r u t e = rw t e

@@ -13,7 +13,7 @@ use Rattle.model.specs.Basics.{if_then_else_, all, lastOr, sum}
 use Rattle.model.specs.Kind.{isAmount}
 use Rattle.model.specs.Letter.{covered, tenYear, ages}
 use Rattle.model.specs.Pattern.{Age, agesOf, cumulative, payments, whole}
-use Rattle.model.specs.Tail.{tenYearTail, twoYearTail, schedule}
+use Rattle.model.specs.Tail.{tenYearTail, twoYearTail, paymentAt, schedule}
 use Rattle.model.specs.Call.{addPattern}
 use Rattle.model.specs.Question.{hasLengths, hasIncurred, climbs, firstNo}
 use Rattle.model.proofs.Lists.{and-left, and-right, sum-append}
@@ -27,11 +27,12 @@ length-schedule : (letter : ℕ) (given : List Age) → length given ≡ ages le
 unfolding schedule ages
 length-schedule letter given e =
     let cumulatives : List ℕ = map cumulative given in
-    rw length-append (by-kind (tenYear letter) _ (lastOr 0 (payments 0 cumulatives)) (whole - lastOr 0 cumulatives) (length-payments 0 cumulatives ∙ length-map given cumulative ∙ e))
+    let paid : List ℕ = payments 0 cumulatives in
+    rw length-append (by-kind (tenYear letter) _ (paymentAt 8 paid) (paymentAt 9 paid) (paymentAt 10 paid) (whole - lastOr 0 cumulatives) (length-payments 0 cumulatives ∙ length-map given cumulative ∙ e))
   where
-    by-kind : (t : Bool) (n p left : ℕ) → n ≡ (if t then 10 else 2) → n + length (if t then tenYearTail p left else twoYearTail left) ≡ (if t then 16 else 4)
-    by-kind true n p left e = omega arith
-    by-kind false n p left e = omega arith
+    by-kind : (t : Bool) (n eighth ninth tenth left : ℕ) → n ≡ (if t then 10 else 2) → n + length (if t then tenYearTail eighth ninth tenth left else twoYearTail left) ≡ (if t then 16 else 4)
+    by-kind true n eighth ninth tenth left e = omega arith
+    by-kind false n eighth ninth tenth left e = omega arith
 
 sum-zeros : (n : ℕ) → sum (replicate n 0) ≡ 0
 sum-zeros zero = refl

@@ -5,12 +5,12 @@ use mathlib.Core.Bool.{Bool, true, _&&_}
 use mathlib.Core.List.{List, [], _∷_, _++_}
 use mathlib.Core.Option.{Option, none, some}
 use Prim.Native.Nat.{ℕ, _-_}
-use lib.ListN.{length, take, getD, replicate}
+use lib.ListN.{length, take, replicate}
 use Rattle.model.specs.Basics.{if_then_else_, all}
 use Rattle.model.specs.Kind.{isAmount}
 use Rattle.model.specs.Letter.{covered, tenYear, ages}
 use Rattle.model.specs.Pattern.{Age, agesOf}
-use Rattle.model.specs.Tail.{tenYearTail, twoYearTail, schedule}
+use Rattle.model.specs.Tail.{tenYearTail, twoYearTail, paymentAt, schedule}
 use Rattle.model.specs.Call.{addPattern}
 use Rattle.model.specs.Question.{hasLengths, hasIncurred, climbs, firstNo}
 use Rattle.refusal.specs.Number.{refusalOf}
@@ -63,4 +63,5 @@ pub record Listed (letter : ℕ) (paid incurred : List ℕ) : Type 0 where
 
 -- the payments at the given ages, which stand first, and the tail
 abbrev pub tailed : ℕ → List ℕ → ℕ → List ℕ
-tailed letter pay unpaid = if tenYear letter then take 10 pay ++ tenYearTail (getD pay 9 0) unpaid else take 2 pay ++ twoYearTail unpaid
+tailed letter pay unpaid =
+    if tenYear letter then take 10 pay ++ tenYearTail (paymentAt 8 pay) (paymentAt 9 pay) (paymentAt 10 pay) unpaid else take 2 pay ++ twoYearTail unpaid

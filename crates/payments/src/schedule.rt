@@ -9,6 +9,9 @@ use refusal::Refusal;
 use refusal::Verdict;
 ghost use mathlib.Core.Path.{_≡_};
 ghost use Prim.Native.Nat.{_-_, _*_, _≤_};
+ghost use lib.ListN.{take};
+ghost use Rattle.model.specs.Basics.{sum};
+ghost use Rattle.model.specs.Letter.{ages};
 ghost use Rattle.payments.specs.Schedule.{scheduleOf, listedOf, judgedOf, refused, Listed, inPlaces, tailed};
 
 // What questions 3, 4, 6, 11 and 12 come to; and the payments, in half units, at ages 1 to 16, or at 1 to 4 and then zeros.
@@ -78,7 +81,7 @@ fn judge(letter: u8, paid: &[u64], incurred: &[u64]) -> Schedule
 
 // The payments at all ages, and zeros.
 fn with_tail(letter: u8, pay: [u64; 16], last: u64) -> [u64; 16]
-    requires { ⌜ last ≤ 100000000 ⌝ }
+    requires { ⌜ (last ≤ 100000000) × (sum (take (ages letter) pay) ≤ 200000000) ⌝ }
     ensures { λ r. ⌜ r ≡ inPlaces letter (tailed letter pay (200000000 - 2 * last)) ⌝ }
 {
     let unpaid = 200000000 - 2 * last;

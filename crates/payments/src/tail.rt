@@ -1,15 +1,17 @@
 // The payments after the ages that a pattern record gives.
 ghost use mathlib.Core.Path.{_≡_};
 ghost use mathlib.Core.List.{_++_};
-ghost use lib.ListN.{take, getD, replicate};
-ghost use Prim.Native.Nat.{min};
-ghost use Rattle.model.specs.Tail.{tenYearTail, twoYearTail};
+ghost use lib.ListN.{take, replicate};
+ghost use Prim.Native.Nat.{_+_, min, _≤_};
+ghost use Rattle.model.specs.Basics.{sum};
+ghost use Rattle.model.specs.Tail.{tailCap, tenYearTail, twoYearTail, paymentAt};
 
-// "Ten-year tail: ages 11 to 15 each pay the smaller of the payment at age 10 and what is unpaid before them. Age 16 pays the rest."
+// "Ten-year tail: ages 11 to 15 each pay the smaller of the payment at age 10" (by F-1: of the cap) "and what is unpaid before them. Age 16 pays the rest."
 pub fn ten_year_tail(pay: [u64; 16], unpaid: u64) -> [u64; 16]
-    ensures { λ r. ⌜ r ≡ take 10 pay ++ tenYearTail (getD pay 9 0) unpaid ⌝ }
+    requires { ⌜ sum (take 10 pay) ≤ 200000000 ⌝ }
+    ensures { λ r. ⌜ r ≡ take 10 pay ++ tenYearTail (paymentAt 8 pay) (paymentAt 9 pay) (paymentAt 10 pay) unpaid ⌝ }
 {
-    let cap = pay[9];
+    let cap = tail_cap(pay[7], pay[8], pay[9]);
     let mut paid = pay;
     let mut left = unpaid;
     let mut at = 10;
@@ -33,6 +35,17 @@ pub fn two_year_tail(pay: [u64; 16], unpaid: u64) -> [u64; 16]
     paid[2] = unpaid / 2;
     paid[3] = unpaid / 2;
     paid
+}
+
+// "where the payment at age 10 is 0, the cap for ages 11 to 15 is the mean of the payments at ages 8, 9 and 10, rounded down to a half unit"
+fn tail_cap(eighth: u64, ninth: u64, tenth: u64) -> u64
+    requires { ⌜ eighth + ninth + tenth ≤ 200000000 ⌝ }
+    ensures { λ r. ⌜ r ≡ tailCap eighth ninth tenth ⌝ }
+{
+    if tenth == 0 {
+        return (eighth + ninth + tenth) / 3;
+    }
+    tenth
 }
 
 fn smaller(a: u64, b: u64) -> u64

@@ -1,4 +1,4 @@
-// Given patterns: exhibits 9 to 11, the pattern that loses more than 23 units, extremes, and one for each question.
+// Given patterns: exhibits 9 to 11, the pattern that loses more than 23 units, extremes, one for each question, and two whose tenth year paid nothing.
 use crate::print::show;
 ghost use Prim.Native.Nat.{_≤_};
 
@@ -31,7 +31,7 @@ fn each(letter: u8, ages: usize, cases: &[u64])
     }
 }
 
-const TEN_YEAR: [u64; 903] = [
+const TEN_YEAR: [u64; 945] = [
     700,
     200000,
     330000,
@@ -935,6 +935,48 @@ const TEN_YEAR: [u64; 903] = [
     11,
     11,
     11,
+    2100,
+    10,
+    25,
+    40,
+    52,
+    62,
+    70,
+    76,
+    80,
+    83,
+    83,
+    100,
+    100,
+    100,
+    100,
+    100,
+    100,
+    100,
+    100,
+    100,
+    100,
+    2100,
+    99999992,
+    99999992,
+    99999992,
+    99999992,
+    99999992,
+    99999992,
+    99999992,
+    99999994,
+    99999994,
+    99999994,
+    100000000,
+    100000000,
+    100000000,
+    100000000,
+    100000000,
+    100000000,
+    100000000,
+    100000000,
+    100000000,
+    100000000,
 ];
 
 const TWO_YEAR: [u64; 105] = [

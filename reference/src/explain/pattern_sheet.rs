@@ -9,7 +9,7 @@ use crate::book::KeptPattern;
 use crate::exact::ExactRatio;
 use crate::factor::{half_year_factor, published, year_earlier};
 use crate::kinds::{Letter, LineKind};
-use crate::pattern::{CumulativeRow, WHOLE};
+use crate::pattern::{tail_cap, CumulativeRow, WHOLE};
 
 /// An accepted PATT with what the book keeps of it.
 pub struct PatternSheet<'a> {
@@ -83,13 +83,29 @@ impl PatternSheet<'_> {
         ]
     }
 
-    fn tail(&self) -> &'static str {
+    fn tail(&self) -> String {
         match self.letter.kind() {
-            LineKind::TenYear => {
-                "Ages 11 to 15 each pay as much as age 10 while so much is unpaid, and age 16 \
-                 the rest."
+            LineKind::TenYear => self.ten_year_tail(),
+            LineKind::TwoYear => {
+                "Ages 3 and 4 each pay half of what is unpaid after age 2.".to_string()
             }
-            LineKind::TwoYear => "Ages 3 and 4 each pay half of what is unpaid after age 2.",
+        }
+    }
+
+    fn ten_year_tail(&self) -> String {
+        let last_payments = [8, 9, 10].map(|age| self.kept.pattern.payment(age));
+        match (last_payments[2], tail_cap(last_payments)) {
+            (0, 0) => "Age 10 paid nothing, and the mean of ages 8, 9 and 10 is 0, so age 16 pays \
+                       all that is unpaid."
+                .to_string(),
+            (0, mean) => format!(
+                "Age 10 paid nothing, so ages 11 to 15 each pay the mean of ages 8, 9 and 10, \
+                 {}, while so much is unpaid, and age 16 the rest.",
+                part(mean)
+            ),
+            _ => "Ages 11 to 15 each pay as much as age 10 while so much is unpaid, and age 16 \
+                  the rest."
+                .to_string(),
         }
     }
 

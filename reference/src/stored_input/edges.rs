@@ -1,5 +1,5 @@
 //! Records at the edges of what the book takes, each with the answer that
-//! document 01 asks for, worked out by hand.
+//! documents 01 and 02 ask for, worked out by hand.
 
 mod bytes;
 mod halves;
@@ -8,6 +8,7 @@ mod numbers;
 mod patterns;
 mod questions;
 mod rates;
+mod tails;
 mod years;
 
 use crate::input_text::{ended_lines, line};
@@ -29,6 +30,7 @@ pub fn edges() -> Vec<Edge> {
     edges.extend(years::edges());
     edges.extend(questions::edges());
     edges.extend(halves::edges());
+    edges.extend(tails::edges());
     edges.push(edge("LINE T 7", "LINE T 7"));
     edges
 }

@@ -73,6 +73,43 @@ fn units(cell: &str, decimals: u32) -> i128 {
     digits(cell) * 10_i128.pow(decimals - after.len() as u32)
 }
 
+/// The payment at an age in half units, from its cell.
+fn half_units(payments: &[&str], age: usize) -> i128 {
+    units(payments[age - 1], 9) / 5
+}
+
+/// Ages 11 to 15 of a ten-year pattern go by age 10, by a mean or by nothing,
+/// and the caption says which.
+#[test]
+fn the_caption_says_what_the_tail_goes_by() {
+    let mut told = [0; 3];
+    for (answer, tables) in stored_tables("FACT ") {
+        let payments = column(&tables, "payment");
+        if payments.len() == 16 {
+            let earlier = half_units(&payments, 8) + half_units(&payments, 9);
+            let mean = units_of_mean(&tables[0].caption);
+            let (place, words) = match (half_units(&payments, 10), earlier / 3) {
+                (0, 0) => (0, "so age 16 pays all that is unpaid."),
+                (0, expected) => {
+                    assert_eq!(mean, Some(expected), "{answer}");
+                    (1, ", while so much is unpaid, and age 16 the rest.")
+                }
+                _ => (2, "Ages 11 to 15 each pay as much as age 10 while"),
+            };
+            assert!(tables[0].caption.contains(words), "{answer}");
+            told[place] += 1;
+        }
+    }
+    assert!(told.iter().all(|count| *count > 20), "{told:?}");
+}
+
+/// The mean that a caption names, in half units.
+fn units_of_mean(caption: &str) -> Option<i128> {
+    let (_, after) = caption.split_once("the mean of ages 8, 9 and 10, ")?;
+    let (mean, _) = after.split_once(',')?;
+    Some(units(mean, 9) / 5)
+}
+
 /// The kept factors follow from what stands beside them, and the exact ratio is
 /// what was lost above them.
 #[test]

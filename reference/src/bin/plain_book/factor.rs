@@ -53,12 +53,18 @@ pub fn publish(cumulative: &Cumulative, ages: usize, discount: Discount) -> Resu
     }
 }
 
-/// Ages 11 to 15 pay what age 10 paid, as far as there is; age 16 the rest.
+/// Ages 11 to 15 pay what age 10 paid, or the mean of ages 8 to 10 if it paid
+/// nothing, as far as there is; age 16 the rest.
 fn ten_year(mut payments: [u64; 16], unpaid: u64, discount: Discount) -> [u32; 11] {
+    let cap = if payments[9] == 0 {
+        (payments[7] + payments[8]) / 3
+    } else {
+        payments[9]
+    };
     let mut left = unpaid;
-    for age in 10..15 {
-        payments[age] = payments[9].min(left);
-        left -= payments[age];
+    for payment in &mut payments[10..15] {
+        *payment = cap.min(left);
+        left -= *payment;
     }
     payments[15] = left;
     let mut walk = Walk::from_last_age(discount);

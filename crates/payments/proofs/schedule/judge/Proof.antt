@@ -1,7 +1,7 @@
 -- `payments::schedule::judge` meets its contract. Assumes nothing.
 use mathlib.Core.Path.{sym, _∙_}
 use borrow.Author.Needs.{needs}
-use Rattle.payments.proofs.Judged.{paired, payable, judged-fine, judged-falls, judged-incurred}
+use Rattle.payments.proofs.Judged.{paired, payable, given-small, judged-fine, judged-falls, judged-incurred}
 use Rattle.payments.proofs.schedule.judge.Statement.{statement}
 use Rattle.payments.proofs.schedule.judge.Tie as tie
 
@@ -14,7 +14,11 @@ payments-requires c κs =
     payable (s .args .letter) _ _ (s .pre) (sym (c .before .has-incurred .ensures) ∙ c .if1 .taken)
 
 with-tail-requires : tie.Need-with-tail-requires
-with-tail-requires c κs = search needs
+with-tail-requires c κs =
+    let p = c .before .before in
+    let i = p .before .before in
+    let s = i .before .before .before in
+    (p .payments .ensures .small, given-small (s .args .letter) (s .args .paid .now) (s .args .incurred .now) _ _ _ (c .before .if2 .taken) (s .pre) (p .payments .ensures))
 
 returns : tie.Need-returns
 returns c =

@@ -1,7 +1,7 @@
 -- `payments::schedule::with_tail` meets its contract. Assumes nothing.
 use mathlib.Core.Path.{sym, _∙_}
 use borrow.Author.Needs.{needs}
-use Rattle.payments.proofs.Judged.{ten-tailed, two-tailed}
+use Rattle.payments.proofs.Judged.{ten-small, ten-tailed, two-tailed}
 use Rattle.payments.proofs.schedule.with_tail.Statement.{statement}
 use Rattle.payments.proofs.schedule.with_tail.Tie as tie
 
@@ -15,7 +15,7 @@ is-ten-year-requires : tie.Need-is-ten-year-requires
 is-ten-year-requires c κs = search needs
 
 ten-year-tail-requires : tie.Need-ten-year-tail-requires
-ten-year-tail-requires c κs = search needs
+ten-year-tail-requires c κs = search ten-small
 
 returns : tie.Need-returns
 returns c =

@@ -2,7 +2,7 @@
 use Prim.Native.Nat.{_-_}
 use native.Mathlib.Omega.{arith}
 use borrow.Author.Needs.{needs}
-use Rattle.payments.proofs.Tails.{Tailing, start, on, end}
+use Rattle.payments.proofs.Tails.{last-three, Tailing, start, on, end}
 use Rattle.payments.proofs.tail.ten_year_tail.Statement.{statement}
 use Rattle.payments.proofs.tail.ten_year_tail.Tie as tie
 
@@ -12,11 +12,20 @@ Inv-loop unpaid cap paid₀ left₀ at₀ paid left at = Tailing paid₀ cap unp
 abbrev μ-loop : tie.MeasureT-loop
 μ-loop unpaid cap paid₀ left₀ at₀ paid left at = 15 - at
 
-array-read-cap : tie.Need-array-read-cap Inv-loop μ-loop
-array-read-cap c = search needs
+array-read-tail-cap : tie.Need-array-read-tail-cap Inv-loop μ-loop
+array-read-tail-cap c = search needs
+
+array-read-tail-cap-2 : tie.Need-array-read-tail-cap-2 Inv-loop μ-loop
+array-read-tail-cap-2 c = search needs
+
+array-read-tail-cap-3 : tie.Need-array-read-tail-cap-3 Inv-loop μ-loop
+array-read-tail-cap-3 c = search needs
+
+tail-cap-requires : tie.Need-tail-cap-requires Inv-loop μ-loop
+tail-cap-requires c κs = search last-three
 
 loop-holds : tie.Need-loop-holds Inv-loop μ-loop
-loop-holds c = start (c .args .t1) _ _ (search needs)
+loop-holds c = start (c .before .args .t1) _ _ (search needs)
 
 smaller-requires : tie.Need-smaller-requires Inv-loop μ-loop
 smaller-requires c κs = search needs
@@ -48,4 +57,4 @@ returns c = search end
 pub ten-year-tail-spec : {M : Type 1} → statement M
 ten-year-tail-spec =
     tie.close
-    (tie.spec Inv-loop μ-loop array-read-cap loop-holds smaller-requires mul-paid array-write-paid sub-left add-at loop-less loop-again array-write-paid-2 returns)
+    (tie.spec Inv-loop μ-loop array-read-tail-cap array-read-tail-cap-2 array-read-tail-cap-3 tail-cap-requires loop-holds smaller-requires mul-paid array-write-paid sub-left add-at loop-less loop-again array-write-paid-2 returns)
