@@ -1,14 +1,18 @@
--- Document 02, F-1: where the tail is document 01's, and caps computed.
+-- Document 02, F-1: where the tail is document 01's; caps and the payments of a pattern, computed.
 -- Assumes nothing.
 use mathlib.Core.Path.{_≡_, refl}
 use mathlib.Core.Bool.{Bool, true, false}
 use mathlib.Core.List.{[], _∷_, map}
+use Prim.Native.Char.{code}
 use Prim.Native.Nat.{ℕ, _+_, _/_, _<_}
 use native.Mathlib.Omega.{arith}
 use borrow.Author.Tests.{eqb-true}
 use lib.Dec.{eqb}
+use lib.ListN.{drop, replicate}
 use Rattle.model.specs.Basics.{if_then_else_}
-use Rattle.model.specs.Tail.{capped, tailCap, tenYearTail}
+use Rattle.model.specs.Letter.{tenYear, twoYear}
+use Rattle.model.specs.Pattern.{agesOf, cumulativeRatio}
+use Rattle.model.specs.Tail.{capped, tailCap, tenYearTail, schedule}
 
 module _ (eighth ninth tenth left : ℕ) where
   -- the tail is that of document 01, whose cap is the payment at age 10
@@ -33,3 +37,9 @@ module _ (eighth ninth tenth left : ℕ) where
 -- nothing was paid at ages 9 and 10, and 0, 2, 4, 6 and 8 half units at age 8
 pub caps : map (λ (eighth : ℕ). tailCap eighth 0 0) (0 ∷ 2 ∷ 4 ∷ 6 ∷ 8 ∷ []) ≡ 0 ∷ 0 ∷ 1 ∷ 2 ∷ 2 ∷ []
 caps = refl
+
+-- 6, 4, 3 and 0 percent are paid at ages 7 to 10, and 17 are left: the payments from age 7 on
+pub tail-of-a-mean : drop 6 (schedule (code "B") (agesOf (10 ∷ 25 ∷ 40 ∷ 52 ∷ 62 ∷ 70 ∷ 76 ∷ 80 ∷ 83 ∷ 83 ∷ []) (replicate 10 100)))
+    ≡ 12000000 ∷ 8000000 ∷ 6000000 ∷ 0 ∷ 4666666 ∷ 4666666 ∷ 4666666 ∷ 4666666 ∷ 4666666 ∷ 10666670 ∷ []
+unfolding schedule cumulativeRatio tenYear twoYear
+tail-of-a-mean = refl

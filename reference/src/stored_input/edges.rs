@@ -1,5 +1,5 @@
 //! Records at the edges of what the book takes, each with the answer that
-//! documents 01 and 02 ask for, worked out by hand.
+//! documents 01 and 02 ask for, worked out by hand, or by another calculation.
 
 mod bytes;
 mod halves;
