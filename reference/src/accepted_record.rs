@@ -74,6 +74,16 @@ pub fn line_record(random: &mut Random, letter: Letter) -> Fields {
     ]
 }
 
+pub fn sum_record(letter: Letter) -> Fields {
+    vec!["SUM".into(), letter.character().into()]
+}
+
+/// The SUM of one of the lines that are declared, if there is one.
+pub fn sum_of_some_line(random: &mut Random, book: &Book) -> Option<Fields> {
+    let letters: Vec<Letter> = book.lines.keys().copied().collect();
+    (!letters.is_empty()).then(|| sum_record(random.choice(&letters)))
+}
+
 /// Sixty rates about a level of the year's own, from 0 to the highest.
 pub fn rate_record(random: &mut Random, year: u64) -> Fields {
     let level = match random.below(12) {

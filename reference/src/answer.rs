@@ -3,6 +3,7 @@
 use crate::kinds::Letter;
 use crate::question::Question;
 use crate::reserve::YearEnd;
+use crate::totals::Totals;
 
 /// The answer to one record.
 #[derive(Clone, Debug, PartialEq, Eq)]
@@ -25,6 +26,9 @@ pub enum Answer {
         year: u64,
         year_end: YearEnd,
     },
+    /// "A record SUM with a letter prints SUM, the letter, the count of closed
+    /// years, all paid, and all tax-basis losses."
+    Sum { letter: Letter, totals: Totals },
     /// "NO: the refusal's number."
     No(Question),
 }
@@ -62,6 +66,13 @@ impl Answer {
                 &year_end.opening,
                 &year_end.closing,
                 &year_end.loss,
+            ]),
+            Answer::Sum { letter, totals } => texts(&[
+                &"SUM",
+                &letter.character(),
+                &totals.closed_years,
+                &totals.paid,
+                &totals.losses,
             ]),
             Answer::No(question) => texts(&[&"NO", &question.number()]),
         }

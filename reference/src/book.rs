@@ -10,6 +10,7 @@ use crate::question::Question;
 use crate::rate::accident_year_rate;
 use crate::record::{read, Request};
 use crate::reserve::{year_end, Row};
+use crate::totals::Totals;
 
 /// The pattern of one accident year, with its factors.
 #[derive(Clone, Debug, PartialEq, Eq)]
@@ -33,6 +34,7 @@ pub struct DeclaredLine {
     /// Oldest first.
     pub patterns: Vec<KeptPattern>,
     pub last_closing: Option<Closing>,
+    pub totals: Totals,
 }
 
 impl DeclaredLine {
@@ -41,6 +43,7 @@ impl DeclaredLine {
             declared_opening,
             patterns: Vec::new(),
             last_closing: None,
+            totals: Totals::default(),
         }
     }
 
@@ -148,6 +151,7 @@ impl Book {
             } => self.give_rate(year, &monthly_rates),
             Request::Pattern { letter, year, rows } => self.give_pattern(letter, year, &rows),
             Request::Year { letter, year, rows } => self.close_year(letter, year, &rows),
+            Request::Sum { letter } => self.sum(letter),
         }
     }
 
@@ -207,11 +211,18 @@ impl Book {
             year,
             amount: year_end.closing,
         });
+        line.totals.add(&year_end);
         Ok(Answer::Tax {
             letter,
             year,
             year_end,
         })
+    }
+
+    fn sum(&self, letter: Letter) -> Result<Answer, Question> {
+        let line = self.lines.get(&letter);
+        let totals = line.ok_or(Question::LineDeclared)?.totals;
+        Ok(Answer::Sum { letter, totals })
     }
 }
 

@@ -4,6 +4,7 @@ use std::io::Result;
 use std::path::Path;
 
 use crate::input_text::{ended_lines, ended_records, line};
+use crate::largest_totals;
 use crate::program::answers;
 use crate::random::Random;
 use crate::run::run;
@@ -104,5 +105,6 @@ pub fn special_inputs() -> Vec<(&'static str, Vec<u8>)> {
             [ended_long, record].concat(),
         ),
         ("bytes 0 to 255", (0..=255).collect()),
+        ("the largest totals", largest_totals::input()),
     ]
 }

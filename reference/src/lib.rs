@@ -1,14 +1,15 @@
-//! The discounting book of document 01, written from that document alone.
+//! The discounting book of documents 01 and 02, written from these alone.
 //!
 //! A line of input goes through these files in this order: `run` cuts the
 //! input into lines, `record` puts questions 1 to 6, `book` puts questions 7
-//! to 13 and keeps the state, `pattern`, `factor` and `reserve` compute, and
-//! `answer` writes the output line.
+//! to 13 and keeps the state, `pattern`, `factor`, `reserve` and `totals`
+//! compute, and `answer` writes the output line.
 //!
 //! `exact` holds whole numbers of any size for the bounds of demand 3.
 //! `random`, `accepted_record`, `refused_record` and `stream` make random input,
 //! `whole_book` the input of the speed comparison, and `stored_input` the inputs
-//! that are stored with the proved programs, which `input_text` helps to write.
+//! that are stored with the proved programs, which `input_text` helps to write;
+//! `largest_totals` makes one more.
 //! `program` runs a program, and `comparison` sets its answers beside ours.
 //! `explain` tells a person what each answer of a run means.
 
@@ -21,6 +22,7 @@ pub mod explain;
 pub mod factor;
 pub mod input_text;
 pub mod kinds;
+pub mod largest_totals;
 pub mod pattern;
 pub mod program;
 pub mod question;
@@ -32,4 +34,5 @@ pub mod reserve;
 pub mod run;
 pub mod stored_input;
 pub mod stream;
+pub mod totals;
 pub mod whole_book;

@@ -5,7 +5,8 @@
 pub enum Question {
     /// "Has the line at most 1,024 bytes?"
     LineLength = 1,
-    /// "Is the first field, byte for byte, one of the four words?"
+    /// "Is the first field, byte for byte, one of the four words?" SUM joins
+    /// them: "New records' words, here and below, join question 2's."
     Word = 2,
     /// "But for RATE: is the second field a covered letter?"
     CoveredLetter = 3,
@@ -17,7 +18,7 @@ pub enum Question {
     WithinLimits = 6,
     /// "LINE, RATE: is that line or that year's rate still to be given?"
     StillToBeGiven = 7,
-    /// "PATT, YEAR: is the line declared?"
+    /// "PATT, YEAR: is the line declared?" It is asked of SUM too.
     LineDeclared = 8,
     /// "PATT: has the year a rate?"
     YearHasRate = 9,

@@ -33,6 +33,9 @@ pub enum Request {
         year: u64,
         rows: Vec<Row>,
     },
+    Sum {
+        letter: Letter,
+    },
 }
 
 /// The request in a line, or the first question with a "no". The byte 10 that
@@ -47,6 +50,7 @@ pub fn read(line: &[u8]) -> Result<Request, Question> {
         b"RATE" => read_rate(&fields),
         b"PATT" => read_pattern(&fields),
         b"YEAR" => read_year(&fields),
+        b"SUM" => read_sum(&fields),
         _ => Err(Question::Word),
     }
 }
@@ -99,6 +103,13 @@ fn read_year(fields: &[&[u8]]) -> Result<Request, Question> {
         year: not_negative(numbers[0]),
         rows: rows.collect(),
     })
+}
+
+/// "SUM has two fields and meets questions 1 to 4 and 8." It has no numbers.
+fn read_sum(fields: &[&[u8]]) -> Result<Request, Question> {
+    let letter = letter(fields)?;
+    numbers(&fields[2..], &[])?;
+    Ok(Request::Sum { letter })
 }
 
 /// The kinds of the numbers of a LINE, in their order.

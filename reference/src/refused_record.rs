@@ -1,6 +1,7 @@
 //! Random records that a book refuses with a given number in its present state.
 
-use crate::accepted_record::{line_record, pattern_record, rate_record, year_record, Fields};
+use crate::accepted_record::{line_record, pattern_record, rate_record};
+use crate::accepted_record::{sum_record, year_record, Fields};
 use crate::book::{Book, DeclaredLine};
 use crate::kinds::{Letter, NumberKind, FIRST_YEAR, LAST_YEAR};
 use crate::random::Random;
@@ -31,8 +32,20 @@ pub fn line_of(fields: Fields) -> Vec<u8> {
     fields.join("\t").into_bytes()
 }
 
-/// A record of any of the four words to which questions 1 to 6 have no "no".
+/// A record of any of the five words to which questions 1 to 6 have no "no".
 fn any_record(random: &mut Random) -> Fields {
+    if random.once_in(5) {
+        return any_sum(random);
+    }
+    record_with_numbers(random)
+}
+
+fn any_sum(random: &mut Random) -> Fields {
+    sum_record(random.choice(&Letter::all()))
+}
+
+/// The same of any word but SUM, which has no numbers.
+fn record_with_numbers(random: &mut Random) -> Fields {
     let letter = random.choice(&Letter::all());
     let year = random.between(FIRST_YEAR, LAST_YEAR);
     match random.below(4) {
@@ -52,7 +65,7 @@ fn long_line(random: &mut Random) -> Vec<u8> {
 }
 
 fn wrong_word(random: &mut Random) -> Vec<u8> {
-    let words = [
+    let words: &[&str] = &[
         "",
         "line",
         "LINES",
@@ -64,13 +77,15 @@ fn wrong_word(random: &mut Random) -> Vec<u8> {
         " RATE",
         "\u{feff}YEAR",
     ];
+    let near_sum: &[&str] = &["sum", "Sum", "SUMS", "SU", "SUM ", " SUM"];
     let mut fields = any_record(random);
-    match random.below(4) {
+    match random.below(5) {
         0 => Vec::new(),
         1 => random_bytes(random),
         2 => [b"\r", line_of(fields).as_slice()].concat(),
-        _ => {
-            fields[0] = random.choice(&words).to_string();
+        place => {
+            let words = if place == 3 { near_sum } else { words };
+            fields[0] = random.choice(words).to_string();
             line_of(fields)
         }
     }
@@ -88,9 +103,9 @@ fn random_bytes(random: &mut Random) -> Vec<u8> {
 
 fn wrong_letter(random: &mut Random) -> Vec<u8> {
     let letters = [
-        "", "M", "N", "O", "P", "Q", "U", "Z", "a", "j", "AA", "J ", "0", "\r",
+        "", "M", "N", "O", "P", "Q", "U", "Z", "a", "j", "AA", "J ", "J\r", "0", "2015", "\r",
     ];
-    let word = random.choice(&["LINE", "PATT", "YEAR"]).to_string();
+    let word = random.choice(&["LINE", "PATT", "YEAR", "SUM"]).to_string();
     if random.once_in(5) {
         return word.into_bytes();
     }
@@ -101,9 +116,10 @@ fn wrong_letter(random: &mut Random) -> Vec<u8> {
 }
 
 fn wrong_count(random: &mut Random) -> Fields {
-    let mut fields = match random.below(3) {
+    let mut fields = match random.below(4) {
         0 => past_a_limit(random),
-        _ => any_record(random),
+        1 => return sum_with_more_fields(random),
+        _ => record_with_numbers(random),
     };
     let last = fields.len() - 1;
     match random.below(4) {
@@ -111,6 +127,16 @@ fn wrong_count(random: &mut Random) -> Fields {
         1 => fields.push(String::new()),
         2 => fields.insert(last, "0".to_string()),
         _ => fields.truncate(2),
+    }
+    fields
+}
+
+/// A SUM with a third field, and often more. Its second is the letter, so it
+/// has never too few.
+fn sum_with_more_fields(random: &mut Random) -> Fields {
+    let mut fields = any_sum(random);
+    for _ in 0..random.choice(&[1, 1, 1, 2, 3]) {
+        fields.push(random.choice(&["", "", "0", "2015", "A"]).to_string());
     }
     fields
 }
@@ -134,7 +160,7 @@ fn badly_written(random: &mut Random) -> Vec<u8> {
     ];
     let fields = match random.below(3) {
         0 => past_a_limit(random),
-        _ => any_record(random),
+        _ => record_with_numbers(random),
     };
     let (first, kinds) = kinds_of_numbers(&fields);
     let place = random.place(kinds.len());
@@ -159,7 +185,7 @@ fn past_a_limit_line(random: &mut Random) -> Vec<u8> {
 
 /// One number past its limit, by one or by much.
 fn past_a_limit(random: &mut Random) -> Fields {
-    let mut fields = any_record(random);
+    let mut fields = record_with_numbers(random);
     let (first, kinds) = kinds_of_numbers(&fields);
     let place = random.place(kinds.len());
     let kind = kinds[place];
@@ -198,8 +224,9 @@ fn undeclared(random: &mut Random, book: &Book) -> Option<Fields> {
         .filter(|letter| !book.lines.contains_key(letter));
     let letter = *undeclared.next()?;
     let year = random.between(FIRST_YEAR, LAST_YEAR);
-    let fields = match random.below(2) {
-        0 => pattern_record(random, letter, year),
+    let fields = match random.below(3) {
+        0 => return Some(sum_record(letter)),
+        1 => pattern_record(random, letter, year),
         _ => year_record(random, letter, year, None),
     };
     Some(sometimes_spoiled(random, fields))

@@ -2,7 +2,7 @@
 
 use std::ops::RangeInclusive;
 
-use crate::accepted_record::{next_record, rate_record};
+use crate::accepted_record::{next_record, rate_record, sum_of_some_line};
 use crate::book::Book;
 use crate::kinds::{Letter, FIRST_YEAR, LAST_YEAR};
 use crate::random::Random;
@@ -15,6 +15,9 @@ const MOST_LINES: usize = 14;
 /// About so many records a book can accept before its lines have come to their
 /// last years.
 const RECORDS_TO_ACCEPT: usize = 2_000;
+
+/// One record in so many is a SUM of a declared line, in a long stream too.
+const SUM_ONCE_IN: u64 = 10;
 
 /// A random stream of so many records. It follows a book, so that about half
 /// of the records are accepted, and fewer in a long stream, whose lines would
@@ -29,7 +32,9 @@ pub fn random_stream(seed: u64, records: usize) -> Vec<u8> {
     for number in 0..records {
         // The lines come in one after another over the whole stream.
         let lines = (2 + number * MOST_LINES / records).min(MOST_LINES);
-        let line = if random.once_in(accept_once_in) {
+        let line = if random.once_in(SUM_ONCE_IN) {
+            line_to_sum(&mut random, &book)
+        } else if random.once_in(accept_once_in) {
             line_to_accept(&mut random, &book, &letters[..lines], &years)
         } else {
             line_to_refuse(&mut random, &book)
@@ -40,7 +45,7 @@ pub fn random_stream(seed: u64, records: usize) -> Vec<u8> {
     }
     // An empty last line needs its byte 10.
     let last_is_empty = stream == b"\n" || stream.ends_with(b"\n\n");
-    if random.once_in(3) && !last_is_empty {
+    if random.once_in(2) && !last_is_empty {
         stream.pop();
     }
     stream
@@ -54,6 +59,12 @@ fn years_with_rate(random: &mut Random) -> RangeInclusive<u64> {
         1 => FIRST_YEAR + 1..=LAST_YEAR,
         _ => FIRST_YEAR + 3..=LAST_YEAR,
     }
+}
+
+/// A SUM of a declared line. Before the first LINE there is none.
+fn line_to_sum(random: &mut Random, book: &Book) -> Vec<u8> {
+    let record = sum_of_some_line(random, book);
+    record.map_or_else(|| line_to_refuse(random, book), line_of)
 }
 
 /// The next record of a line chosen at random, or of a line after it that has

@@ -91,6 +91,7 @@ impl ExactFactors {
 struct LineTerms {
     declared_opening: i128,
     exact_factors: BTreeMap<u64, ExactFactors>,
+    closed_years: u64,
     payments: i128,
     losses: i128,
 }
@@ -134,7 +135,14 @@ impl Terms {
                 self.check_rows(*letter, *year, rows, year_end, book);
                 self.check_losses(*letter, rows, year_end);
             }
-            (Request::Year { .. }, _) => panic!("a closed year is answered with TAX"),
+            (Request::Sum { letter }, Answer::Sum { totals, .. }) => {
+                let line = &self.lines[letter];
+                let expected = (line.closed_years, line.payments, line.losses);
+                assert_eq!((totals.closed_years, totals.paid, totals.losses), expected);
+            }
+            (Request::Year { .. } | Request::Sum { .. }, _) => {
+                panic!("a closed year is answered with TAX, a SUM with SUM")
+            }
         }
     }
 
@@ -172,6 +180,7 @@ impl Terms {
     /// closing less the declared opening.
     fn check_losses(&mut self, letter: Letter, rows: &[Row], end: &YearEnd) {
         let line = self.lines.get_mut(&letter).expect("declared");
+        line.closed_years += 1;
         line.payments += rows.iter().map(|row| i128::from(row.paid)).sum::<i128>();
         line.losses += i128::from(end.loss);
         let closing = i128::from(end.closing);

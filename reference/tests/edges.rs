@@ -272,6 +272,25 @@ fn each_of_the_bytes_0_to_255_as_a_line_as_a_letter_and_as_a_digit() {
     assert_eq!(Letter::all().len(), 15);
 }
 
+/// Line A is declared and no other.
+#[test]
+fn each_of_the_bytes_0_to_255_as_the_letter_of_a_sum_and_after_it() {
+    let book = book_after(&["LINE A 7"]);
+    for byte in (0..=255_u8).filter(|byte| *byte != b'\n') {
+        let answer = |start: &[u8]| answer_to_bytes(&mut book.clone(), &[start, &[byte]].concat());
+        let as_letter = match byte {
+            b'A' => "SUM A 0 0 0",
+            b'B'..=b'L' | b'R'..=b'T' => "NO 8",
+            _ => "NO 3",
+        };
+        assert_eq!(answer(b"SUM\t"), as_letter, "byte {byte}");
+        let is_tab = byte == b'\t';
+        assert_eq!(answer(b"SUM\tA"), if is_tab { "NO 4" } else { "NO 3" });
+        assert_eq!(answer(b"SUM"), if is_tab { "NO 3" } else { "NO 2" });
+        assert_eq!(answer(b"SU"), if byte == b'M' { "NO 3" } else { "NO 2" });
+    }
+}
+
 /// The rate 0 discounts nothing, so paid, closing and loss reach both ends.
 #[test]
 fn paid_closing_and_loss_at_the_ends_of_their_range() {

@@ -6,6 +6,8 @@ mod common;
 use common::{commas, output_of, rate};
 use reference::answer::Answer;
 use reference::book::{Book, DeclaredLine};
+use reference::explain::explain;
+use reference::explain::text::text;
 use reference::factor::published;
 use reference::kinds::Letter;
 use reference::record::{read, Request};
@@ -61,7 +63,7 @@ fn the_exhibits_are_the_stored_run_of_their_program() {
 
 /// Is a line of a text an answer? A record stands within its line.
 fn is_answer(line: &str) -> bool {
-    let words = ["LINE ", "RATE ", "FACT ", "TAX ", "NO ", "DONE "];
+    let words = ["LINE ", "RATE ", "FACT ", "TAX ", "SUM ", "NO ", "DONE "];
     let shown = line.strip_prefix("    ").unwrap_or_default();
     words.iter().any(|word| shown.starts_with(word))
 }
@@ -226,40 +228,84 @@ fn the_text_has_the_equation_of_every_loss() {
     }
 }
 
-/// The losses of a line, and its payments with its last closing and declared opening.
-fn check_over_all_years(years: &[ClosedYear]) -> String {
+/// What a text has of a line's totals: the answer to its SUM, both sums, and the
+/// reconciliation.
+fn totals_of(letter: char, years: &[ClosedYear]) -> [String; 4] {
     let sum = |amount: fn(&ClosedYear) -> i64| {
         let amounts = years.iter().map(amount);
         let shown: Vec<String> = amounts.clone().map(commas).collect();
-        (shown.join(" + "), amounts.sum::<i64>())
+        let total: i64 = amounts.sum();
+        (total, format!("{} = {}", shown.join(" + "), commas(total)))
     };
-    let (losses, total) = sum(|closed| closed.tax.loss);
-    let (payments, paid) = sum(|closed| closed.tax.paid);
-    let opening = years[0].line.declared_opening;
-    let closing = years[years.len() - 1].tax.closing;
-    assert_eq!(total, paid + closing as i64 - opening as i64);
-    let [opening, closing, total] = [opening as i64, closing as i64, total].map(commas);
-    format!("{losses} = {total}, and {payments} + {closing} - {opening} = {total}")
+    let (paid, payments) = sum(|closed| closed.tax.paid);
+    let (loss, losses) = sum(|closed| closed.tax.loss);
+    let opening = years[0].line.declared_opening as i64;
+    let closing = years[years.len() - 1].tax.closing as i64;
+    assert_eq!(loss - paid, closing - opening);
+    let difference = |from: i64, number: i64| {
+        let [from, number, result] = [from, number, from - number].map(commas);
+        format!("{from} - {number} = {result}")
+    };
+    let (left, right) = (difference(loss, paid), difference(closing, opening));
+    [
+        format!("SUM {letter} {} {paid} {loss}", years.len()),
+        payments,
+        losses,
+        format!("{left}, and {right}"),
+    ]
 }
 
 #[test]
-fn the_text_has_the_check_over_all_years() {
+fn the_text_has_the_totals_and_the_reconciliation_of_every_line() {
     for (example, letter) in [(0, 'B'), (0, 'J'), (1, 'D')] {
         let (text, runs) = EXAMPLES[example];
         let mut years: Vec<ClosedYear> = runs.iter().flat_map(closed_years).collect();
         years.retain(|closed| closed.letter.character() == letter);
-        let check = check_over_all_years(&years);
-        assert!(text.contains(&check), "{check}");
+        for said in totals_of(letter, &years) {
+            assert!(text.contains(&said), "{said}");
+        }
     }
+}
+
+/// With records 2 and 3 deleted, the year end of 2012 is not closed.
+#[test]
+fn the_sum_of_the_year_end_counts_the_closed_years() {
+    let records: Vec<&str> = YEAR_END.records.lines().chain(["SUM D"]).collect();
+    let sum_after = |records: &[&str]| output_of(records)[records.len() - 1].clone();
+    assert_eq!(sum_after(&records), "SUM D 2 31283 38108");
+    let deleted = [&records[..1], &records[3..]].concat();
+    assert_eq!(sum_after(&deleted), "SUM D 1 15751 22576");
+}
+
+/// The manual shows the reconciliation of line B as `explain` prints it.
+#[test]
+fn the_manual_shows_what_explain_says_of_a_sum() {
+    let manual = include_str!("../../docs/MANUAL.md");
+    let (_, shown) = manual.split_once("\n    - All paid: ").expect("shown");
+    let (shown, _) = shown.split_once("\n\n").expect("its end");
+    let said = text(&explain("class", CLASS.records.as_bytes()));
+    let shown = format!("\n- All paid: {}\n", shown.replace("\n    ", "\n"));
+    assert!(said.contains(&shown), "{shown}");
 }
 
 #[test]
 fn what_the_class_is_told_to_try_is_answered_as_told() {
     let records: Vec<&str> = CLASS.records.lines().collect();
-    let again = [records[15], &rate(2014, 5)];
+    let again = [records[15], records[17], &rate(2014, 5)];
     assert!(again[0].starts_with("YEAR\tJ\t2014\t"));
     let output = output_of(&[&records[..], &again].concat());
-    assert_eq!(output[16..], ["NO 10", "NO 7", "DONE 15 3"]);
+    assert_eq!(output[17], "SUM J 2 33480 36677");
+    assert_eq!(output[18..], ["NO 10", &output[17], "NO 7", "DONE 18 3"]);
+}
+
+#[test]
+fn a_sum_of_the_class_before_the_first_closing_has_zeros() {
+    let records: Vec<&str> = CLASS.records.lines().collect();
+    assert!(records[8].starts_with("PATT\tJ\t") && records[4].starts_with("LINE\tJ\t"));
+    for (before, answer) in [(9, "SUM J 0 0 0"), (4, "NO 8")] {
+        let output = output_of(&[&records[..before], &["SUM J"]].concat());
+        assert_eq!(output[before], answer);
+    }
 }
 
 #[test]

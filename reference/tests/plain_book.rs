@@ -50,6 +50,11 @@ fn bytes_0_to_255_and_empty_input() {
         "LINE\tA\t",
         "RATE",
         "RATE\t",
+        "SU",
+        "SUM",
+        "SUM\t",
+        "SUM\tA",
+        "SUM\tA\t",
     ] {
         check(word.as_bytes(), word);
         check(format!("{word}\n").as_bytes(), word);
@@ -60,7 +65,7 @@ fn bytes_0_to_255_and_empty_input() {
 #[test]
 fn random_bytes() {
     let mut random = Random::new(4);
-    let pieces: [&[u8]; 12] = [
+    let pieces: [&[u8]; 15] = [
         b"\n",
         b"\n",
         b"\t",
@@ -72,6 +77,9 @@ fn random_bytes() {
         b"0",
         b"-1",
         b"2015\t",
+        b"SUM\t",
+        b"SUM\tJ",
+        b"\nSUM\tA\n",
         b"\xff",
     ];
     for _ in 0..20 {

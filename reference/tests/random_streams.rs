@@ -8,21 +8,22 @@ use std::collections::BTreeMap;
 use common::output;
 use reference::accepted_record::next_record;
 use reference::answer::Answer;
-use reference::book::Book;
+use reference::book::{Book, DeclaredLine};
 use reference::kinds::{Letter, LineKind, HIGHEST_AMOUNT, HIGHEST_RATE};
 use reference::random::Random;
 use reference::record::{read, Request};
 use reference::refused_record::{line_of, refused_line};
 use reference::run::records;
 use reference::stream::random_stream;
+use reference::totals::Totals;
 
 const SEEDS: std::ops::Range<u64> = 0..12;
 const RECORDS: usize = 1_500;
 
-/// How often each answer occurs in a run; a NO is counted with its number.
-fn answers(stream: &[u8]) -> BTreeMap<String, usize> {
+/// How often each answer occurs; a NO is counted with its number.
+fn counts_of(answers: impl IntoIterator<Item = String>) -> BTreeMap<String, usize> {
     let mut counts = BTreeMap::new();
-    for line in output(stream) {
+    for line in answers {
         let fields: Vec<&str> = line.split(' ').collect();
         let answer = match fields[0] {
             "NO" => line.clone(),
@@ -36,12 +37,19 @@ fn answers(stream: &[u8]) -> BTreeMap<String, usize> {
 #[test]
 fn every_answer_and_every_refusal_number_occurs_often() {
     for seed in SEEDS {
-        let counts = answers(&random_stream(seed, RECORDS));
+        let counts = counts_of(output(&random_stream(seed, RECORDS)));
         for number in 1..=13 {
             let count = counts[&format!("NO {number}")];
             assert!(count >= RECORDS / 100, "seed {seed}, NO {number}: {count}");
         }
-        for (word, least) in [("LINE", 8), ("RATE", 40), ("FACT", 200), ("TAX", 150)] {
+        let leasts = [
+            ("LINE", 8),
+            ("RATE", 40),
+            ("FACT", 200),
+            ("TAX", 150),
+            ("SUM", 100),
+        ];
+        for (word, least) in leasts {
             assert!(counts[word] >= least, "seed {seed}, {word}");
         }
     }
@@ -50,8 +58,8 @@ fn every_answer_and_every_refusal_number_occurs_often() {
 #[test]
 fn short_and_long_streams_have_every_answer_too() {
     for records in [700, 5_000, 12_000] {
-        let counts = answers(&random_stream(77, records));
-        assert_eq!(counts.len(), 13 + 4 + 1, "{records} records: {counts:?}");
+        let counts = counts_of(output(&random_stream(77, records)));
+        assert_eq!(counts.len(), 13 + 5 + 1, "{records} records: {counts:?}");
         assert_eq!(counts.values().sum::<usize>(), records + 1);
     }
     assert_eq!(random_stream(5, 0), b"");
@@ -141,6 +149,9 @@ struct Variety {
     tabular_discounts: usize,
     highest_amounts: usize,
     gross_in_age_rows_over_ten_years: usize,
+    sums_of_no_year: usize,
+    sums_of_many_years: usize,
+    sums_below_zero: usize,
 }
 
 impl Variety {
@@ -183,8 +194,20 @@ impl Variety {
                 let all_gross = rows[..ages].iter().filter(|row| row.gross() > 0).count();
                 self.gross_in_age_rows_over_ten_years += usize::from(all_gross >= 9);
             }
+            Request::Sum { letter } => self.count_sum(&book.lines[letter]),
             Request::Line { .. } | Request::Rate { .. } => {}
         }
+    }
+
+    fn count_sum(&mut self, line: &DeclaredLine) {
+        let Totals {
+            closed_years,
+            paid,
+            losses,
+        } = line.totals;
+        self.sums_of_no_year += usize::from(closed_years == 0);
+        self.sums_of_many_years += usize::from(closed_years > 5);
+        self.sums_below_zero += usize::from(paid < 0 || losses < 0);
     }
 }
 
@@ -196,7 +219,7 @@ fn the_accepted_records_vary() {
         let patterns: usize = variety.patterns.values().sum();
         assert!(variety.with_tail * 2 > patterns, "seed {seed}");
         let without_mean = variety.tenth_paid_nothing - variety.tail_of_a_mean;
-        assert!(variety.tail_of_a_mean > 15 && without_mean > 10);
+        assert!(variety.tail_of_a_mean > 12 && without_mean > 8);
         assert!(variety.tail_of_few_half_units > 2, "seed {seed}");
         let ten_year = |letter: &&Letter| letter.kind() == LineKind::TenYear;
         let long_lines = variety.patterns.keys().filter(ten_year);
@@ -210,11 +233,34 @@ fn the_accepted_records_vary() {
         assert!(variety.negative_paid > 50 && variety.tabular_discounts > 50);
         assert!(variety.highest_amounts > 20);
         assert!(variety.gross_in_age_rows_over_ten_years > 10, "seed {seed}");
+        assert!(variety.sums_of_no_year > 10 && variety.sums_of_many_years > 40);
+        assert!(variety.sums_below_zero > 4, "seed {seed}");
         let mut rates: Vec<u64> = book.rates.values().copied().collect();
         rates.sort_unstable();
         rates.dedup();
         assert!(rates.len() > 40);
         assert!(rates[0] < 100 && rates[rates.len() - 1] > HIGHEST_RATE - 100);
+    }
+}
+
+/// Is a line a SUM, or nearly one?
+fn is_like_a_sum(line: &[u8]) -> bool {
+    line.to_ascii_uppercase().trim_ascii().starts_with(b"SU")
+}
+
+/// "SUM has two fields and meets questions 1 to 4 and 8." It gets each of these
+/// numbers in every stream.
+#[test]
+fn sums_are_refused_with_each_of_their_numbers() {
+    for seed in SEEDS {
+        let stream = random_stream(seed, RECORDS);
+        let answers = records(&stream).into_iter().zip(output(&stream));
+        let refused =
+            answers.filter(|(line, answer)| is_like_a_sum(line) && answer.starts_with("NO"));
+        let counts = counts_of(refused.map(|(_, answer)| answer));
+        let numbers: Vec<&str> = counts.keys().map(String::as_str).collect();
+        assert_eq!(numbers, ["NO 1", "NO 2", "NO 3", "NO 4", "NO 8"]);
+        assert!(counts.values().all(|count| *count > 2), "{counts:?}");
     }
 }
 
@@ -224,7 +270,7 @@ fn random_bytes_are_answered() {
     let mut random = Random::new(2024);
     for _ in 0..200 {
         let length = random.below(3_000);
-        let common = b"\n\n\t\t\tLINERATEPATTYEARAJ0123456789-";
+        let common = b"\n\n\t\t\tLINERATEPATTYEARSUMAJ0123456789-";
         let mut input = Vec::new();
         for _ in 0..length {
             let byte = match random.below(8) {

@@ -34,6 +34,7 @@ fn line(bytes: &[u8]) -> String {
             let lists = [list(paid, 11), list(unpaid, 11), list(tabular, 11)];
             named("YEAR", letter, year, &lists)
         }
+        Ok(Request::Sum { letter }) => format!("SUM {}", letter.character()),
     }
 }
 
@@ -61,7 +62,7 @@ fn lines_ask_what_the_proved_program_prints() {
 #[test]
 fn every_question_and_every_kind_occurs() {
     for start in [
-        "NO 1", "NO 2", "NO 3", "NO 4", "NO 5", "NO 6", "LINE", "RATE", "PATT", "YEAR",
+        "NO 1", "NO 2", "NO 3", "NO 4", "NO 5", "NO 6", "LINE", "RATE", "PATT", "YEAR", "SUM",
     ] {
         let count = STORED
             .lines()

@@ -65,6 +65,24 @@ fn cases_of_reading() -> Vec<Case> {
     ]
 }
 
+fn cases_of_sums() -> Vec<Case> {
+    vec![
+        case(1, &format!("SUM J {}", "1".repeat(1_019)), "SUM J"),
+        case(2, "sum J", "SUM J"),
+        case(2, "SUMS J", "SUM J"),
+        case(2, "SU J", "SUM J"),
+        case(3, "SUM", "SUM J"),
+        case(3, "SUM ", "SUM J"),
+        case(3, "SUM M", "SUM J"),
+        case(3, "SUM j", "SUM J"),
+        case(3, "SUM JJ", "SUM J"),
+        case(3, "SUM 2015", "SUM J"),
+        case(4, "SUM J ", "SUM J"),
+        case(4, "SUM J 2015", "SUM J"),
+        case(8, "SUM K", "SUM J"),
+    ]
+}
+
 fn cases_of_the_book() -> Vec<Case> {
     vec![
         case(7, "LINE J 0", "LINE K 0"),
@@ -106,6 +124,7 @@ fn cases_of_the_book() -> Vec<Case> {
 fn each_refusal_leaves_the_state_and_its_neighbour_is_accepted() {
     let cases: Vec<Case> = cases_of_reading()
         .into_iter()
+        .chain(cases_of_sums())
         .chain(cases_of_the_book())
         .collect();
     for number in 1..=13 {
@@ -153,6 +172,14 @@ fn the_questions_come_in_their_order() {
         (10, "YEAR J 2016 0 1 0 0 1 0 0 1 0".to_string()),
         (11, "PATT J 2016 2 2 2 0".to_string()),
         (11, "PATT J 2016 3 2 1 2".to_string()),
+        (1, format!("SUMS M {}", "1".repeat(1_018))),
+        (2, "SUMS M 1".to_string()),
+        (2, "SUM\r M 1".to_string()),
+        (3, "SUM M ".to_string()),
+        (3, "SUM  K".to_string()),
+        (4, "SUM K ".to_string()),
+        (4, "SUM K 2015".to_string()),
+        (8, "SUM K".to_string()),
     ];
     for (number, record) in cases {
         assert_eq!(

@@ -41,7 +41,7 @@ fn every_letter_has_every_year_and_the_numbers_vary() {
                 rates.dedup();
                 assert!(rates.len() > 20, "{rates:?}");
             }
-            Request::Line { .. } | Request::Pattern { .. } => {}
+            Request::Line { .. } | Request::Pattern { .. } | Request::Sum { .. } => {}
         }
     }
     assert!(negative > 500 && tabular > 500, "{negative} {tabular}");

@@ -11,7 +11,7 @@ use lib.IntN.{ℤ}
 use lib.ListN.{length, set}
 use Rattle.model.specs.Number.{decimal, signedDecimal}
 use Rattle.model.specs.Published.{published}
-use Rattle.model.specs.Answer.{declared, rated, tax, refusal, lineOfText, text}
+use Rattle.model.specs.Answer.{declared, rated, tax, summed, refusal, lineOfText, text}
 use Rattle.model.specs.Answer as model
 use Rattle.ledger.specs.declared.answer.Answer.{Answer}
 use Rattle.ledger.specs.declared.answer.Answer.the-variants as answer
@@ -81,6 +81,14 @@ module _ (buffer : List ℕ) (at : ℕ) (room : Room buffer at 320) (later : Lis
       (and-then buffer at _ m₁ n₁ 26 p₁ 87 (omega arith) _ _ _ (λ room₁. and-then m₁ n₁ _ m₂ n₂ 22 p₂ 65 room₁ _ _ _ (λ room₂. and-then m₂ n₂ _ m₃ n₃ 21 p₃ 44 room₂ _ _ _
       (λ room₃. and-then m₃ n₃ _ m₄ n₄ 21 p₄ 23 room₃ _ _ _ (λ room₄. and-end m₄ n₄ _ later last 22 p₅ room₄)))))
 
+  -- "SUM, the letter, the count of closed years, all paid, and all tax-basis losses"
+  pub summed-put : (letter years : ℕ) (paid paid′ : ℤ) → paid′ ≡ paid → (losses losses′ : ℤ) → losses′ ≡ losses → (m₁ m₂ : List ℕ) (n₁ n₂ : ℕ) → PutsShort buffer at (83 ∷ 85 ∷ 77 ∷ 9 ∷ letter ∷ 9 ∷ decimal years) m₁ n₁ 26
+      → PutsShort m₁ n₁ (9 ∷ signedDecimal paid′) m₂ n₂ 22 → PutsShort m₂ n₂ (9 ∷ signedDecimal losses′) later last 22 → Puts buffer at (text (summed letter years paid losses)) (set later last 10) (last + 1)
+  unfolding text
+  summed-put letter years paid paid′ ep losses losses′ el m₁ m₂ n₁ n₂ p₁ p₂ p₃ =
+      rw (← ep, ← el)
+      (and-then buffer at _ m₁ n₁ 26 p₁ 45 (omega arith) _ _ _ (λ room₁. and-then m₁ n₁ _ m₂ n₂ 22 p₂ 23 room₁ _ _ _ (λ room₂. and-end m₂ n₂ _ later last 22 p₃ room₂)))
+
   -- "NO: the refusal's number."
   pub refusal-put : (question : ℕ) → PutsShort (set (set buffer at 78) (at + 1) 79) (at + 2) (9 ∷ decimal question) later last 21 → Puts buffer at (text (refusal question)) (set later last 10) (last + 1)
   unfolding text
@@ -127,6 +135,10 @@ module _ (buffer : List ℕ) (at : ℕ) (t : Bool) (et : t ≡ hasRoom buffer at
   pub tax-answered : (letter year : ℕ) (paid : ℤ) (opening closing : ℕ) (loss : ℤ) → given ≡ answer.Tax letter year paid opening closing loss → (paid′ loss′ : ℤ) → Puts buffer at (text (tax letter year paid′ opening closing loss′)) later last
       → paid′ ≡ paid → loss′ ≡ loss → PutsWithRoom buffer at (text (answered given store)) later last
   tax-answered letter year paid opening closing loss eg paid′ loss′ p ep el = line-answered (tax letter year paid opening closing loss) (rw eg) (rw (ep, el) at p)
+
+  pub summed-answered : (letter years : ℕ) (paid losses : ℤ) → given ≡ answer.Sum letter years paid losses → (paid′ losses′ : ℤ) → Puts buffer at (text (summed letter years paid′ losses′)) later last → paid′ ≡ paid → losses′ ≡ losses
+      → PutsWithRoom buffer at (text (answered given store)) later last
+  summed-answered letter years paid losses eg paid′ losses′ p ep el = line-answered (summed letter years paid losses) (rw eg) (rw (ep, el) at p)
 
   pub refusal-answered : (question : Refusal) → given ≡ answer.No question → (number : ℕ) → number ≡ numberOf question → Puts buffer at (text (refusal number)) later last → PutsWithRoom buffer at (text (answered given store)) later last
   refusal-answered question eg number en p = line-answered (refusal (numberOf question)) (rw eg) (rw en at p)

@@ -12,7 +12,7 @@ ghost use mathlib.Core.List.{[], _∷_, _++_, map};
 ghost use mathlib.Core.Path.{_≡_};
 ghost use Prim.Native.Nat.{_+_};
 ghost use lib.ListN.{length};
-ghost use Rattle.model.specs.Answer.{declared, rated, tax, refusal, lineOfText, text, doneText};
+ghost use Rattle.model.specs.Answer.{declared, rated, tax, summed, refusal, lineOfText, text, doneText};
 ghost use Rattle.model.specs.Number.{decimal};
 ghost use Rattle.model.specs.Published.{published};
 ghost use Rattle.state.specs.Patterns.{factorAt, patternAt};
@@ -41,6 +41,12 @@ pub fn put_answer(out: &mut [u8], at: usize, answer: Answer, store: &Store) -> u
                 closing,
                 loss,
             } => put_tax(out, at, letter, year, paid, opening, closing, loss),
+            Answer::Sum {
+                letter,
+                years,
+                paid,
+                losses,
+            } => put_summed(out, at, letter, years, paid, losses),
             Answer::No(refusal) => put_refusal(out, at, refusal.number()),
         }
     } else {
@@ -80,7 +86,7 @@ fn put_numbers(out: &mut [u8], at: usize, word: &[u8], first: u64, second: u64) 
     last + 1
 }
 
-// How LINE, FACT and TAX begin: a word and its tab, the letter, and a number.
+// How LINE, FACT, TAX and SUM begin: a word and its tab, the letter, and a number.
 fn put_beginning(out: &mut [u8], at: usize, word: &[u8], letter: u8, number: u64) -> usize
     requires { ⌜ Room (now out) at (length (now word) + 22) ⌝ }
     ensures { λ r. ⌜ PutsShort (now (out .entry)) at (now (word .entry) ++ (letter ∷ 9 ∷ decimal number)) (now (out .exit)) r (length (now (word .entry)) + 22) ⌝ }
@@ -173,6 +179,18 @@ fn put_tax(
     let third = put_number(out, second, opening);
     let fourth = put_number(out, third, closing);
     let last = put_signed(out, fourth, loss);
+    out[last] = 10;
+    last + 1
+}
+
+// "prints SUM, the letter, the count of closed years, all paid, and all tax-basis losses"
+fn put_summed(out: &mut [u8], at: usize, letter: u8, years: u64, paid: i64, losses: i64) -> usize
+    requires { ⌜ Room (now out) at 320 ⌝ }
+    ensures { λ r. ⌜ Puts (now (out .entry)) at (text (summed letter years paid losses)) (now (out .exit)) r ⌝ }
+{
+    let first = put_beginning(out, at, b"SUM\t", letter, years);
+    let second = put_signed(out, first, paid);
+    let last = put_signed(out, second, losses);
     out[last] = 10;
     last + 1
 }

@@ -1,3 +1,4 @@
+pub mod Growths
 pub mod RowLoops
 pub mod RowPatterns
 pub mod Turns

@@ -6,7 +6,7 @@ use mathlib.Core.Path.{_≡_, refl, sym, _∙_}
 use mathlib.Core.Option.{none, some}
 use Prim.Native.Nat.{ℕ, suc, _<_}
 use native.Mathlib.Omega.{arith}
-use borrow.Author.Tests.{eqb-true, eqb-false}
+use borrow.Author.Tests.{eq-eqb, eqb-true, eqb-false}
 use lib.Dec.{eqb}
 use lib.IntN.{ℤ}
 use lib.ListN.{length, take}
@@ -64,13 +64,13 @@ module _ (letter year : ℕ) (paid : List ℤ) (unpaid tabular : List ℕ) (lett
     year-on m book store r later h = goes-on book asks store r (year-sound m) later h
 
 -- a line that is due keeps a pattern, and the year is that of its last one
-due-by : (z y c : Bool) → (if z then false else (if y then c else false)) ≡ true → (z ≡ false) × (y ≡ true)
+due-by : (z y c : Bool) → (if z then false else (if y then c else false)) ≡ true → (z ≡ false) × (y ≡ true) × (c ≡ true)
 due-by true y c e = absurd (true≢false (sym e))
-due-by false true c e = (refl, refl)
+due-by false true c e = (refl, refl, e)
 due-by false false c e = absurd (true≢false (sym e))
 
 module _ (year : ℕ) (line : Line) (due : isDue line year ≡ true) where
-  due-tests : (eqb (line .kept) 0 ≡ false) × (eqb year (line .last) ≡ true)
+  due-tests : (eqb (line .kept) 0 ≡ false) × (eqb year (line .last) ≡ true) × ((if isYear (line .closed) then not (eqb (line .closed) year) else true) ≡ true)
   unfolding isDue
   due-tests = due-by (eqb (line .kept) 0) (eqb year (line .last)) (if isYear (line .closed) then not (eqb (line .closed) year) else true) due
 
@@ -79,6 +79,10 @@ module _ (year : ℕ) (line : Line) (due : isDue line year ≡ true) where
 
   pub due-last : year ≡ line .last
   due-last = eqb-true year (line .last) (due-tests .1)
+
+  -- the last closed year is another
+  pub due-open : isYear (line .closed) ≡ true → line .closed ≡ year → ⊥
+  due-open y e = true≢false (sym (due-tests .2) ∙ rw (y, eq-eqb (line .closed) year e))
 
 -- the rows of a sound YEAR
 module _ (letter year : ℕ) (paid : List ℤ) (unpaid tabular : List ℕ) (sound : Sound (closeYear letter year paid unpaid tabular)) where

@@ -6,7 +6,7 @@ use mathlib.Core.Path.{_≡_, refl, sym, _∙_}
 use mathlib.Core.Option.{none, some}
 use Prim.Native.Nat.{ℕ, suc, _≤_, _<_}
 use native.Mathlib.Omega.{arith}
-use lib.IntN.{ℤ}
+use lib.IntN.{ℤ, natAbs}
 use lib.ListN.{length}
 use Rattle.model.specs.Basics.{if_then_else_}
 use Rattle.model.specs.Kind.{isYear}
@@ -15,7 +15,7 @@ use Rattle.model.specs.Row.{Row, rowsOf}
 use Rattle.model.specs.Book as model
 use Rattle.model.specs.YearEnd.{closing, opening, paidTotal, loss}
 use Rattle.model.specs.Call.{closeYear}
-use Rattle.model.specs.Step.{withClosing, accept}
+use Rattle.model.specs.Step.{accept}
 use Rattle.model.proofs.Lists.{and-left, and-right}
 use Rattle.year_rows.specs.Limits.{hasLimits}
 use Rattle.reserve.specs.YearEnd.{yearEnd}
@@ -23,26 +23,33 @@ use Rattle.reserve.specs.declared.year_end.YearEnd.{YearEnd}
 use Rattle.refusal.specs.declared.Verdict.the-variants.{Fine}
 use Rattle.reserve.proofs.Closings.{RowFactors, closing-of-line}
 use Rattle.model.proofs.YearRows.{rows-count}
-use Rattle.reserve.proofs.Verdicts.{limits-of-year, closing-limit, year-end-of-line}
+use Rattle.reserve.proofs.Losses.{loss-limit}
+use Rattle.reserve.proofs.Verdicts.{limits-of-year, paid-limit, closing-limit, year-end-of-line}
 use Rattle.state.specs.declared.book.Book.{Book}
 use Rattle.line_limits.specs.declared.line.Line.{Line}
+use Rattle.line_limits.specs.declared.totals.Totals.{Totals}
+use Rattle.line_limits.specs.Totals.{Within, withYearOf}
+use Rattle.line_limits.proofs.TotalLimits.{read-within, year-within}
 use Rattle.ledger.specs.declared.answer.Answer.the-variants as answer
 use Rattle.ledger.specs.declared.answer.Outcome.{Outcome}
 use Rattle.state.specs.Store.{size}
 use Rattle.state.specs.Lines.{Limited, withLineOf, withClosingOf}
 use Rattle.closings.specs.Rows.{FactorsOf}
+use Rattle.state.specs.Totals.{totalCellsAt, totalsAt, withTotalsOf}
 use Rattle.state.specs.View.{lineOf}
 use Rattle.ledger.specs.Answer.{acceptedOf}
 use Rattle.ledger.specs.Does.{bookSettled, storeSettled, Settled}
 use Rattle.closings.specs.CloseYear.{openingOf, Passed}
-use Rattle.state.proofs.Limited.{opening-small, closing-small, line-limited, closing-limited}
+use Rattle.closings.specs.Totals.{OfAYear}
+use Rattle.state.proofs.Limited.{opening-small, closing-small, closed-kept, line-limited, closing-limited}
 use Rattle.state.proofs.KeptYears.{kept-year}
-use Rattle.state.proofs.Views.{line-is, lines-put}
+use Rattle.state.proofs.Views.{line-is}
+use Rattle.state.proofs.ClosedYears.{year-put}
 use Rattle.closings.proofs.RowPatterns.{row-factors-are}
-use Rattle.closings.proofs.YearAsked.{due-kept, due-last, passes}
+use Rattle.closings.proofs.YearAsked.{due-kept, due-last, due-open, passes}
 
 -- "Opening is the last closing, or the declared opening."
-opening-by : (d t : Bool) (year declared closed : ℕ) → d ≡ true → opening (record { opening = if d then some declared else none; closed = if t then some (record { year = year; closing = closed }) else none; kept = [] }) ≡ (if t then closed else declared)
+opening-by : (d t : Bool) (year declared closed : ℕ) → d ≡ true → opening (record { opening = if d then some declared else none; closed = if t then some (record { year = year; closing = closed }) else none; kept = []; totals = model.noTotals }) ≡ (if t then closed else declared)
 opening-by true true year declared closed e = refl
 opening-by true false year declared closed e = refl
 opening-by false t year declared closed e = let z : _≡_ {A = ℕ} 0 1 = cc in absurd (omega arith)
@@ -61,11 +68,6 @@ opening-is store letter line d = opening-by (line .declared) (isYear (line .clos
 small-by : (t : Bool) (a b : ℕ) → a ≤ 110000000000 → b ≤ 100000000000 → (if t then a else b) ≤ 110000000000
 small-by true a b ha hb = ha
 small-by false a b ha hb = omega arith
-
--- the line with the year closed
-closed-line : (store : List ℕ) (letter : ℕ) (line : Line) (year amount : ℕ) → isYear year ≡ true → lineOf store letter (withClosingOf line year amount) ≡ withClosing (lineOf store letter line) year amount
-unfolding lineOf
-closed-line store letter line year amount y = rw y
 
 module _ (store : List ℕ) (line : Line) (letter year : ℕ) (paid : List ℤ) (unpaid tabular : List ℕ) (pre : Passed store line letter year paid unpaid tabular) where
   abbrev rows : List Row
@@ -113,14 +115,39 @@ module _ (store : List ℕ) (line : Line) (letter year : ℕ) (paid : List ℤ) 
     closed-limited : Limited letter (withClosingOf line year amount)
     closed-limited = closing-limited letter line limited year is-year amount keeps (due-last year line (pre .turned .due)) amount-small
 
-    pub year-closed : (book : Book) → length store ≡ size → (o : ℕ) → o ≡ openingOf line → (end : YearEnd) → end ≡ yearEnd letter paid unpaid tabular factors o
-        → (closed : Line) → closed ≡ withClosingOf line year (end .closing) → (later : List ℕ) → later ≡ withLineOf store letter closed
-        → (p : ℤ) → p ≡ end .paid → (v : ℤ) → v ≡ end .loss → (r : Outcome) → r ≡ acceptedOf book (answer.Tax letter year p o (end .closing) v) → Settled book (closeYear letter year paid unpaid tabular) store r later
-    unfolding accept bookSettled storeSettled
-    year-closed book n o eo end ee closed ec later el p ep v ev r er =
-        rw (passes store line letter year paid unpaid tabular pre book, er, ep, ev, el, ec, ee, eo, end-is)
+    abbrev taxLoss : ℤ
+    taxLoss = loss (paidTotal rows) amount (openingOf line)
+
+    of-a-year : OfAYear (paidTotal rows) taxLoss
+    of-a-year =
+        let paid-small : natAbs (paidTotal rows) ≤ 110000000000 = paid-limit letter paid unpaid tabular (pre .turned .sound .lengths) has-limits factors in
         record {
-          outcome = rw (lines-put store letter (withClosingOf line year amount) (pre .turned .sound .letter) n closed-limited, closed-line store letter line year amount is-year, line-is store letter line (pre .turned .here), opening-is store letter line (pre .turned .declared));
-          own = refl;
-          lent = rw (line-is store letter line (pre .turned .here), ← (pre .turned .here));
+          paid-limit = omega (arith, paid-small);
+          loss-limit = loss-limit (paidTotal rows) amount (openingOf line) (record { paidLimit = paid-small; closingLimit = amount-small; openingLimit = opening-limit });
         }
+
+    -- as code has the figures
+    module _ (o : ℕ) (eo : o ≡ openingOf line) (end : YearEnd) (ee : end ≡ yearEnd letter paid unpaid tabular factors o) (p : ℤ) (ep : p ≡ end .paid) (v : ℤ) (ev : v ≡ end .loss) where
+      pub figures-small : OfAYear p v
+      figures-small = rw (ep, ev, ee, eo, end-is) of-a-year
+
+      later-than : isYear (line .closed) ≡ true → line .closed < year
+      later-than y = omega (arith, closed-kept letter line limited y .1, due-last year line (pre .turned .due), due-open year line (pre .turned .due) y)
+
+      abbrev totals : Totals
+      totals = withYearOf (totalsAt store letter (line .closed)) (paidTotal rows) taxLoss
+
+      totals-within : Within year totals
+      totals-within = year-within (line .closed) year is-year later-than (totalsAt store letter (line .closed)) (paidTotal rows) taxLoss (read-within (line .closed) (totalCellsAt store letter)) (of-a-year .paid-limit) (of-a-year .loss-limit)
+
+      pub year-closed : (book : Book) → length store ≡ size → (middle : List ℕ) → middle ≡ withTotalsOf store letter year (withYearOf (totalsAt store letter (line .closed)) p v)
+          → (closed : Line) → closed ≡ withClosingOf line year (end .closing) → (later : List ℕ) → later ≡ withLineOf middle letter closed
+          → (r : Outcome) → r ≡ acceptedOf book (answer.Tax letter year p o (end .closing) v) → Settled book (closeYear letter year paid unpaid tabular) store r later
+      unfolding accept bookSettled storeSettled lineOf
+      year-closed book n middle em closed ec later el r er =
+          rw (passes store line letter year paid unpaid tabular pre book, er, el, em, ec, ep, ev, ee, eo, end-is)
+          record {
+            outcome = rw (year-put store letter year amount line totals (pre .turned .sound .letter) n is-year closed-limited totals-within, line-is store letter line (pre .turned .here), opening-is store letter line (pre .turned .declared));
+            own = refl;
+            lent = rw (line-is store letter line (pre .turned .here), opening-is store letter line (pre .turned .declared), ← (pre .turned .here));
+          }

@@ -1,2 +1,3 @@
 pub mod CloseYear
 pub mod Rows
+pub mod Totals

@@ -1,6 +1,7 @@
 // "YEAR, letter, year, then paid, unpaid, tabular for each age, prior row last"
 use crate::rows::have_patterns;
 use crate::rows::row_factors;
+use crate::totals::add_year;
 use kinds::year::is_year;
 use ledger::accept::accept;
 use ledger::answer::Answer;
@@ -111,7 +112,7 @@ fn ask_patterns(
     refuse(book, Refusal::NoPattern)
 }
 
-// The closing kept, and the tax-basis loss.
+// The closing and the totals kept, and the tax-basis loss.
 fn end_year(
     book: Book,
     store: &mut Store,
@@ -129,6 +130,7 @@ fn end_year(
     let opening = opening_of(line);
     let end = year_end(letter, paid, unpaid, tabular, &factors, opening);
     let closing = end.closing;
+    add_year(store, letter, line.closed, year, end.paid, end.loss);
     keep_line(store, letter, with_closing(line, year, closing));
     accept(
         book,

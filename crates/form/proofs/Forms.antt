@@ -8,7 +8,7 @@ use Rattle.model.specs.Letter.{tenYear, covered}
 use Rattle.model.specs.Record.{fieldCount, allowsMinus}
 use Rattle.form.specs.Word.{named, isLettered}
 use Rattle.form.specs.declared.word.Word.{Word}
-use Rattle.form.specs.declared.word.Word.the-variants.{Line, Patt, Year}
+use Rattle.form.specs.declared.word.Word.the-variants.{Line, Patt, Year, Sum}
 
 pub minus-year : (word : Word) (k : ℕ) → word ≡ Year → eqb (k % 3) 0 ≡ allowsMinus (named word) k
 minus-year word k e = rw e
@@ -36,3 +36,6 @@ module _ (word : Word) (letter : ℕ) (t : Bool) (et : t ≡ covered letter) whe
 
   pub year-letter : word ≡ Year → t ≡ isLettered (named word) letter
   year-letter e = rw e et
+
+  pub sum-letter : word ≡ Sum → t ≡ isLettered (named word) letter
+  sum-letter e = rw e et

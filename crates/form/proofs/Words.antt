@@ -1,4 +1,4 @@
--- The four words, and the letter.
+-- The five words, and the letter.
 -- Assumes nothing.
 use mathlib.Core.Bool.{Bool, true, false}
 use mathlib.Core.Path.{_≡_, refl, ap, _∙_}
@@ -9,7 +9,7 @@ use lib.ListN.{length, take, drop, getD, List·getD-eq-default}
 use lib.Seq.{getD-drop}
 use Rattle.model.specs.Basics.{same, bytes}
 use Rattle.model.specs.Field.{fields, field, onlyByte, letterIn}
-use Rattle.model.specs.Record.{LINE, RATE, PATT, YEAR, OTHER, wordOf}
+use Rattle.model.specs.Record.{LINE, RATE, PATT, YEAR, SUM, OTHER, wordOf}
 use Rattle.field.specs.Place.{Starts}
 use Rattle.field.proofs.Scan.{before, first-field}
 use Rattle.field.proofs.Fields.{rest-of, has-field, no-field}
@@ -34,9 +34,14 @@ module _ (f : List ℕ) (a : Bool) (ea : a ≡ same f (bytes "LINE")) where
         unfolding wordOf
         is-year q = rw (← ea, a0, ← eb, b0, ← ec, c0, ← ed, q)
 
-        pub is-other : d ≡ false → OTHER ≡ wordOf f
-        unfolding wordOf
-        is-other q = rw (← ea, a0, ← eb, b0, ← ec, c0, ← ed, q)
+        module _ (d0 : d ≡ false) (e : Bool) (ee : e ≡ same f (bytes "SUM")) where
+          pub is-sum : e ≡ true → SUM ≡ wordOf f
+          unfolding wordOf
+          is-sum q = rw (← ea, a0, ← eb, b0, ← ec, c0, ← ed, d0, ← ee, q)
+
+          pub is-other : e ≡ false → OTHER ≡ wordOf f
+          unfolding wordOf
+          is-other q = rw (← ea, a0, ← eb, b0, ← ec, c0, ← ed, d0, ← ee, q)
 
 pub byte-one : (f : List ℕ) → length f ≡ 1 → getD f 0 0 ≡ onlyByte f
 byte-one [] e = refl

@@ -5,13 +5,14 @@ use Prim.Native.Nat.{ℕ}
 use Rattle.model.specs.Letter.{covered}
 use Rattle.model.specs.Record as model
 use Rattle.form.specs.declared.word.Word.{Word}
-use Rattle.form.specs.declared.word.Word.the-variants.{Line, Rate, Patt, Year, Other}
+use Rattle.form.specs.declared.word.Word.the-variants.{Line, Rate, Patt, Year, Sum, Other}
 
 abbrev pub named : Word → model.Word
 named Line = model.LINE
 named Rate = model.RATE
 named Patt = model.PATT
 named Year = model.YEAR
+named Sum = model.SUM
 named Other = model.OTHER
 
 -- "But for RATE: is the second field a covered letter?"
@@ -20,4 +21,5 @@ isLettered model.LINE letter = covered letter
 isLettered model.RATE letter = true
 isLettered model.PATT letter = covered letter
 isLettered model.YEAR letter = covered letter
+isLettered model.SUM letter = covered letter
 isLettered model.OTHER letter = false

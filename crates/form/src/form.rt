@@ -5,7 +5,7 @@ ghost use mathlib.Core.Path.{_≡_};
 ghost use Rattle.model.specs.Record.{fieldCount, firstNumber, allowsMinus};
 ghost use Rattle.form.specs.Word.{named};
 
-// "RATE, year, sixty rates: 62 fields." "PATT ..: 23 or 7 fields." "YEAR ..: 36 or 12 fields."
+// "RATE, year, sixty rates: 62 fields." "PATT ..: 23 or 7 fields." "YEAR ..: 36 or 12 fields." F-2: "SUM has two fields".
 pub fn field_count(word: Word, letter: u8) -> usize
     ensures { λ r. ⌜ r ≡ fieldCount (named word) letter ⌝ }
 {
@@ -24,6 +24,7 @@ pub fn field_count(word: Word, letter: u8) -> usize
             }
             12
         }
+        Word::Sum => 2,
         Word::Other => 0,
     }
 }
@@ -37,6 +38,7 @@ pub fn first_number(word: Word) -> usize
         Word::Rate => 1,
         Word::Patt => 2,
         Word::Year => 2,
+        Word::Sum => 2,
         Word::Other => 1,
     }
 }
@@ -50,6 +52,7 @@ pub fn allows_minus(word: Word, place: usize) -> bool
         Word::Rate => false,
         Word::Patt => false,
         Word::Year => place % 3 == 0,
+        Word::Sum => false,
         Word::Other => false,
     }
 }

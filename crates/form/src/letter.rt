@@ -37,6 +37,7 @@ pub fn is_lettered(word: Word, letter: u8) -> bool
         Word::Rate => true,
         Word::Patt => is_covered(letter),
         Word::Year => is_covered(letter),
+        Word::Sum => is_covered(letter),
         Word::Other => false,
     }
 }

@@ -1,4 +1,4 @@
-// "Is the first field, byte for byte, one of the four words?"
+// "Is the first field, byte for byte, one of the four words?" F-2: "New records' words, here and below, join question 2's."
 ghost use mathlib.Core.Path.{_≡_};
 ghost use Rattle.model.specs.Basics.{same};
 ghost use Rattle.model.specs.Record.{wordOf};
@@ -10,6 +10,7 @@ pub enum Word {
     Rate,
     Patt,
     Year,
+    Sum,
     Other,
 }
 
@@ -30,7 +31,7 @@ fn is_same(a: &[u8], b: &[u8]) -> bool
     true
 }
 
-// Which of the four words the field is.
+// Which of the five words the field is.
 pub fn word_of(field: &[u8]) -> Word
     ensures { λ r. ⌜ named r ≡ wordOf (now (field .entry)) ⌝ }
 {
@@ -46,10 +47,13 @@ pub fn word_of(field: &[u8]) -> Word
     if is_same(field, b"YEAR") {
         return Word::Year;
     }
+    if is_same(field, b"SUM") {
+        return Word::Sum;
+    }
     Word::Other
 }
 
-// Is it one of the four?
+// Is it one of the five?
 pub fn is_word(word: Word) -> bool
     ensures { λ r. ⌜ r ≡ hasWord (named word) ⌝ }
 {
@@ -58,6 +62,7 @@ pub fn is_word(word: Word) -> bool
         Word::Rate => true,
         Word::Patt => true,
         Word::Year => true,
+        Word::Sum => true,
         Word::Other => false,
     }
 }

@@ -2,18 +2,25 @@
 -- Assumes nothing.
 use mathlib.Core.List.{List, [], _∷_, _++_}
 use mathlib.Core.Path.{_≡_, refl, sym, ap, _∙_}
+use mathlib.Core.Option as option
 use Prim.Native.Nat.{ℕ}
-use Rattle.model.specs.Answer.{Answer}
+use lib.ListN.{length}
+use Rattle.model.specs.Answer.{Answer, summed}
+use Rattle.model.specs.Call.{totals}
+use Rattle.model.specs.Question.{firstNo}
 use Rattle.model.specs.Book as model
 use Rattle.model.specs.Step as model-step
-use Rattle.model.specs.Step.{Request, step}
+use Rattle.model.specs.Step.{Request, asked, questions, step}
 use Rattle.model.specs.Run.{after}
+use Rattle.model.specs.History.{accepted, yearsIn, paidIn, lossesIn}
 use Rattle.model.proofs.Demand.{demand}
+use Rattle.model.proofs.Totals.{sum-prints}
 use Rattle.state.specs.declared.book.Book.{Book}
 use Rattle.state.specs.View.{view, emptyBook, emptyStore}
 use Rattle.state.proofs.EmptyBook.{empty-shown}
+use Rattle.ledger.specs.declared.answer.Outcome.{Outcome}
 use Rattle.ledger.specs.Answer.{answered}
-use Rattle.ledger.specs.Does.{bookAfter, storeAfter}
+use Rattle.ledger.specs.Does.{Does, bookAfter, storeAfter}
 use Rattle.journal.specs.InTurn.{DoneInTurn, none, one, answersOf, bookAfterAll, storeAfterAll, Leaves}
 
 -- one request more
@@ -63,3 +70,11 @@ pub leaves : (requests : List Request) (answers : List Answer) (book : Book) (st
 leaves requests answers book store done =
     let c = come requests answers book store done in
     record { answered-so = c .so-answered; later = c .met; own = c .own; lent = c .lent; demand = rw (c .met) (demand requests) }
+
+-- F-2, "The figures equal the sums over the accepted YEAR records of that line": what the code answers an accepted SUM after the list
+pub sum-answered : (requests : List Request) (answers : List Answer) (book : Book) (store : List ℕ) → DoneInTurn requests answers book store
+    → (request : Request) (letter : ℕ) → asked request ≡ totals letter → firstNo (questions (view book store) request) ≡ option.none → (r : Outcome) (later : List ℕ) → Does book request store r later
+    → answered (r .answer) later ≡ summed letter (length (yearsIn (accepted model.empty requests) letter)) (paidIn (accepted model.empty requests) letter) (lossesIn (accepted model.empty requests) letter)
+sum-answered requests answers book store done request letter e passed r later does =
+    let c = come requests answers book store done in
+    ap (λ (o : model-step.Outcome). o .answer) (does .outcome ∙ ap (λ (b : model.Book). step b request) (c .met) ∙ sum-prints requests request letter e (rw (c .met) at passed))

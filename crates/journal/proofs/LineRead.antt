@@ -9,7 +9,7 @@ use native.Mathlib.Numerals.{add-one}
 use lib.IntN.{ℤ, pos}
 use lib.ListN.{length, take, drop, getD, replicate}
 use Rattle.model.specs.Letter.{ages}
-use Rattle.model.specs.Call.{declare, setRate, addPattern, closeYear}
+use Rattle.model.specs.Call.{declare, setRate, addPattern, closeYear, totals}
 use Rattle.model.specs.Step.{asBytes, asNumbers}
 use Rattle.record.specs.declared.request.Request.{Request}
 use Rattle.record.specs.declared.request.Asked.{Asked}
@@ -39,6 +39,9 @@ module _ (line : List ℕ) (request : Request) (minus : List Bool) (sizes : List
   module _ (book : Book) (r : Outcome) (store : List ℕ) where
     pub refuses : (refusal : Refusal) → request .asked ≡ asked.Refused refusal → r ≡ refusedOf book refusal → Does book (asBytes line) store r store
     refuses refusal e er = line-refused line book store r refusal (told (asked.Refused refusal) e) er
+
+    pub sums : request .asked ≡ asked.Totals → Does book (asNumbers (totals (request .letter))) store r store → Does book (asBytes line) store r store
+    sums e h = line-asks line book store r (totals (request .letter)) (told asked.Totals e) store h
 
     module _ (later : List ℕ) where
       pub declares : request .asked ≡ asked.Declare → Does book (asNumbers (declare (request .letter) (getD sizes 2 0))) store r later → Does book (asBytes line) store r later

@@ -12,6 +12,7 @@ use record::read::read;
 use record::request::Asked;
 use state::book::Book;
 use state::store::Store;
+use totals::totals;
 ghost use Prim.Native.Nat.{suc};
 ghost use Rattle.model.specs.Letter.{ages};
 ghost use Rattle.model.specs.Step.{asBytes, asNumbers};
@@ -33,6 +34,7 @@ pub fn apply(book: Book, store: &mut Store, line: &[u8]) -> Outcome
         Asked::SetRate => set_rate(book, store, sizes[1], &sizes[2..62]),
         Asked::AddPattern => apply_pattern(book, store, letter, &sizes),
         Asked::CloseYear => apply_year(book, store, letter, &minus, &sizes),
+        Asked::Totals => totals(book, store, letter),
     }
 }
 

@@ -10,16 +10,18 @@ use Rattle.model.specs.Pattern.{agesOf}
 use Rattle.model.specs.Rate.{rateOf}
 use Rattle.model.specs.Row.{rowsOf}
 use Rattle.model.specs.Tail.{schedule}
-use Rattle.model.specs.YearEnd.{closing}
+use Rattle.model.specs.YearEnd.{closing, opening, paidTotal, loss}
 use Rattle.model.specs.Book as model
-use Rattle.model.specs.Call.{Call, declare, setRate, addPattern, closeYear}
+use Rattle.model.specs.Call.{Call, declare, setRate, addPattern, closeYear, totals}
 use Rattle.model.specs.Question.{bookQuestions, firstNo}
 use Rattle.model.specs.Step.{Request, asked, questions, keptPattern, settle, step}
+use Rattle.line_limits.specs.Totals.{withYearOf}
 use Rattle.state.specs.declared.book.Book.{Book}
 use Rattle.state.specs.Hints.{withHintOf}
 use Rattle.state.specs.Lines.{lineAt, withLineOf, newLine, withPatternOf, withClosingOf}
 use Rattle.state.specs.Patterns.{slotOf, withSlotOf}
 use Rattle.state.specs.Rates.{withRateOf}
+use Rattle.state.specs.Totals.{totalsAt, withTotalsOf}
 use Rattle.state.specs.View.{view}
 use Rattle.ledger.specs.declared.answer.Outcome.{Outcome}
 use Rattle.ledger.specs.Answer.{outcomeOf, oneMoreRefused, oneMoreAccepted}
@@ -31,8 +33,9 @@ bookSettled none (declare letter opening) book = oneMoreAccepted book
 bookSettled none (setRate year months) book = oneMoreAccepted (withRateOf book year (rateOf months))
 bookSettled none (addPattern letter year paid incurred) book = oneMoreAccepted book
 bookSettled none (closeYear letter year paid unpaid tabular) book = oneMoreAccepted book
+bookSettled none (totals letter) book = oneMoreAccepted book
 
--- the store after it, where `book` is the model's book before: a refusal leaves it as it was; LINE and YEAR write the cells of their line, PATT those of its slot and its line, RATE its year's hint
+-- the store after it, where `book` is the model's book before: as it was after a refusal or SUM. LINE writes its line, RATE its year's hint, PATT its slot and its line, YEAR its totals and its line
 unfoldable pub storeSettled : Option ℕ → model.Book → Call → List ℕ → List ℕ
 storeSettled (some question) book call store = store
 storeSettled none book (declare letter opening) store = withLineOf store letter (newLine opening)
@@ -41,7 +44,13 @@ storeSettled none book (addPattern letter year paid incurred) store =
     let pattern = keptPattern letter year (orDefault (book .rates year) 0) (schedule letter (agesOf paid incurred)) in
     withLineOf (withSlotOf store letter year (slotOf letter pattern)) letter (withPatternOf letter (lineAt store letter) year)
 storeSettled none book (closeYear letter year paid unpaid tabular) store =
-    withLineOf store letter (withClosingOf (lineAt store letter) year (closing letter (book .lines letter) year (rowsOf paid unpaid tabular)))
+    let rows = rowsOf paid unpaid tabular in
+    let line = lineAt store letter in
+    let amount = closing letter (book .lines letter) year rows in
+    let taxLoss = loss (paidTotal rows) amount (opening (book .lines letter)) in
+    let later = withYearOf (totalsAt store letter (line .closed)) (paidTotal rows) taxLoss in
+    withLineOf (withTotalsOf store letter year later) letter (withClosingOf line year amount)
+storeSettled none book (totals letter) store = store
 
 -- a call of which `first` is the first question answered no, if any
 pub record Settles (first : Option ℕ) (book : Book) (call : Call) (store : List ℕ) (r : Outcome) (later : List ℕ) : Type 0 where

@@ -24,6 +24,12 @@ pub enum Answer {
         closing: u64,
         loss: i64,
     },
+    Sum {
+        letter: u8,
+        years: u64,
+        paid: i64,
+        losses: i64,
+    },
     No(Refusal),
 }
 

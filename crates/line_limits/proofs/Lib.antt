@@ -1,1 +1,3 @@
 pub mod LimitsRead
+pub mod TotalLimits
+pub mod TotalsRead

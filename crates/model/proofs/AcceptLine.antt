@@ -8,13 +8,14 @@ use Prim.Native.Nat.{ℕ}
 use borrow.Author.Tests.{eq-eqb}
 use lib.IntN.{pos, _+ℤ_, +ℤ-idr}
 use Rattle.model.specs.Basics.{given}
-use Rattle.model.specs.Book.{Book}
+use Rattle.model.specs.Book.{Book, noTotals}
 use Rattle.model.specs.Call.{declare}
 use Rattle.model.specs.Answer.{declared}
 use Rattle.model.specs.Step.{withLine, declaredLine}
 use Rattle.model.specs.History.{Entry, paymentsIn, keptIn, paidIn, lossesIn}
 use Rattle.model.proofs.Lists.{some≢none, not-given, put-all}
 use Rattle.model.proofs.Entries.{with, payments-with, kept-with, openings-with, closed-with, losses-with, paid-with, Fresh}
+use Rattle.model.proofs.Sums.{sums-same}
 use Rattle.model.proofs.Invariant.{LineHolds, Invariant, aside, entries-with, rates-as}
 
 module _ (h : List Entry) (b : Book) (letter amount : ℕ) (i : Invariant h b) (q7 : not (given (b .lines letter .opening)) ≡ true) where
@@ -43,6 +44,8 @@ module _ (h : List Entry) (b : Book) (letter amount : ℕ) (i : Invariant h b) (
             let r = l .newest year pay more (rw (payments-with h e letter year, append-nil (paymentsIn h letter year)) at s) in
             absurd (some≢none (r .pattern) (sym (rw k at (r .is))));
         balance = rw (losses-with h e letter, paid-with h e letter, +ℤ-idr (lossesIn h letter), +ℤ-idr (paidIn h letter), z2);
+        sums = sums-same h e letter noTotals (rw (← l .zeros c) (l .sums)) refl refl refl refl;
+        zeros = λ s. refl;
       }
 
   pub accept-line : Invariant (with h e) (withLine b letter (declaredLine amount))
@@ -50,6 +53,6 @@ module _ (h : List Entry) (b : Book) (letter amount : ℕ) (i : Invariant h b) (
       record {
         rates = rates-as h b e i (λ y. refl);
         lines = put-all (LineHolds (with h e)) (b .lines) letter (declaredLine amount) holds
-            (λ j ne. aside h e fresh j (b .lines j) (record { no-opening = rw ne; no-closing = refl; no-payments = λ y. refl; no-kept = refl; no-loss = refl; no-paid = refl }) (i .lines j));
+            (λ j ne. aside h e fresh j (b .lines j) (record { no-opening = rw ne; no-closing = refl; no-payments = λ y. refl; no-kept = refl; no-year = refl; no-loss = refl; no-paid = refl; no-paid-answered = refl }) (i .lines j));
         entries = entries-with h e fresh (i .entries) tt;
       }

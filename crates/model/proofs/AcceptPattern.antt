@@ -26,6 +26,7 @@ use Rattle.model.proofs.Lists.{some≢none, cons≢nil, is-given, and-l
 use Rattle.model.proofs.Near.{composite-near}
 use Rattle.model.proofs.Ages.{Sized, schedule-sized, ages-positive, kept-count, kept-near, worked-near}
 use Rattle.model.proofs.Entries.{with, rates-with, payments-with, kept-with, openings-with, closed-with, losses-with, paid-with, Fresh}
+use Rattle.model.proofs.Sums.{sums-same}
 use Rattle.model.proofs.Invariant.{Reached, LineHolds, Invariant, aside, all-near-with, entries-with, rates-as}
 
 -- a pattern that is in turn is of a later year than any before it
@@ -134,6 +135,8 @@ module _ (h : List Entry) (b : Book) (letter year : ℕ) (paid incurred : List �
         patterns = all-near;
         newest = λ y ps more s. newest-at y ps more (paymentsIn h letter y) (eqb y year) refl refl (rw (payments-with h e letter y, eq-eqb letter letter refl) at s);
         balance = rw (losses-with h e letter, paid-with h e letter, +ℤ-idr (lossesIn h letter), +ℤ-idr (paidIn h letter)) (l .balance);
+        sums = sums-same h e letter (b .lines letter .totals) (l .sums) refl refl refl refl;
+        zeros = l .zeros;
       }
 
   pattern-holds : PatternHolds (with h e) line letter year
@@ -144,6 +147,6 @@ module _ (h : List Entry) (b : Book) (letter year : ℕ) (paid incurred : List �
       record {
         rates = rates-as h b e i (λ y. refl);
         lines = put-all (LineHolds (with h e)) (b .lines) letter line line-holds
-            (λ j ne. aside h e fresh j (b .lines j) (record { no-opening = refl; no-closing = refl; no-payments = λ y. rw ne; no-kept = rw ne; no-loss = refl; no-paid = refl }) (i .lines j));
+            (λ j ne. aside h e fresh j (b .lines j) (record { no-opening = refl; no-closing = refl; no-payments = λ y. rw ne; no-kept = rw ne; no-year = refl; no-loss = refl; no-paid = refl; no-paid-answered = refl }) (i .lines j));
         entries = entries-with h e fresh (i .entries) (rw (eq-eqb letter letter refl) pattern-holds);
       }

@@ -37,6 +37,6 @@ module _ (h : List Entry) (b : Book) (year : ℕ) (months : List ℕ) (i : Invar
         rates = put-all (λ y o. ratesIn (with h e) y ≡ listed o) (b .rates) year (some (rateOf months))
             (rw (rates-with h e year, i .rates year, not-given (b .rates year) q7, eq-eqb year year refl))
             (λ j ne. rw (rates-with h e j, ne, append-nil (ratesIn h j)) (i .rates j));
-        lines = λ j. aside h e fresh j (b .lines j) (record { no-opening = refl; no-closing = refl; no-payments = λ y. refl; no-kept = refl; no-loss = refl; no-paid = refl }) (i .lines j);
+        lines = λ j. aside h e fresh j (b .lines j) (record { no-opening = refl; no-closing = refl; no-payments = λ y. refl; no-kept = refl; no-year = refl; no-loss = refl; no-paid = refl; no-paid-answered = refl }) (i .lines j);
         entries = entries-with h e fresh (i .entries) tt;
       }

@@ -16,11 +16,12 @@ use Rattle.model.specs.YearEnd.{closing, opening, paidTotal, loss}
 use Rattle.model.specs.Call.{closeYear}
 use Rattle.model.specs.Question.{hasLengths, isYearOf, haveKept}
 use Rattle.model.specs.Answer.{tax}
-use Rattle.model.specs.Step.{withLine, withClosing}
+use Rattle.model.specs.Step.{withLine, withYear, withClosing}
 use Rattle.model.specs.History.{Entry, paymentsIn, keptIn, openingsIn, paidIn, lossesIn}
 use Rattle.model.specs.Demand.{YearHolds}
 use Rattle.model.proofs.Lists.{some≢none, is-given, put-all}
 use Rattle.model.proofs.Entries.{with, payments-with, kept-with, openings-with, closed-with, losses-with, paid-with, Fresh, entry-with}
+use Rattle.model.proofs.Sums.{sums-more}
 use Rattle.model.proofs.Invariant.{LineHolds, Invariant, aside, all-near-with, entries-with, rates-as}
 use Rattle.model.proofs.Rows.{rows-hold}
 use Rattle.model.proofs.YearRows.{rows-count, paid-total-is}
@@ -48,15 +49,18 @@ module _ (h : List Entry) (b : Book) (letter year : ℕ) (paid : List ℤ) (unpa
   abbrev amount : ℕ
   amount = closing letter (b .lines letter) year rows
 
+  abbrev taxLoss : ℤ
+  taxLoss = loss (paidTotal rows) amount (opening (b .lines letter))
+
   abbrev line : Line
-  line = withClosing (b .lines letter) year amount
+  line = withClosing (b .lines letter) year amount (withYear (b .lines letter .totals) (paidTotal rows) taxLoss)
 
   abbrev e : Entry
   e =
       record {
         before = b;
         call = closeYear letter year paid unpaid tabular;
-        answer = tax letter year (paidTotal rows) (opening (b .lines letter)) amount (loss (paidTotal rows) amount (opening (b .lines letter)));
+        answer = tax letter year (paidTotal rows) (opening (b .lines letter)) amount taxLoss;
         later = withLine b letter line;
       }
 
@@ -85,6 +89,8 @@ module _ (h : List Entry) (b : Book) (letter year : ℕ) (paid : List ℤ) (unpa
         newest = λ y pay more s. l .newest y pay more (rw (payments-with h e letter y, append-nil (paymentsIn h letter y)) at s);
         balance = rw (losses-with h e letter, paid-with h e letter, eq-eqb letter letter refl, ← paid-total-is letter year paid unpaid tabular q4)
             (add-up (lossesIn h letter) (paidIn h letter) (paidTotal rows) (pos amount) (pos (orDefault (b .lines letter .opening) 0)) (pos (opening (b .lines letter))) (l .balance));
+        sums = sums-more h e letter (b .lines letter .totals) (l .sums) year (paidTotal rows) taxLoss (rw (eq-eqb letter letter refl)) (rw (eq-eqb letter letter refl, ← paid-total-is letter year paid unpaid tabular q4)) (rw (eq-eqb letter letter refl)) (rw (eq-eqb letter letter refl));
+        zeros = λ u. absurd (some≢none (record { year = year; closing = amount }) u);
       }
 
   pub accept-year : Invariant (with h e) (withLine b letter line)
@@ -92,6 +98,6 @@ module _ (h : List Entry) (b : Book) (letter year : ℕ) (paid : List ℤ) (unpa
       record {
         rates = rates-as h b e i (λ y. refl);
         lines = put-all (LineHolds (with h e)) (b .lines) letter line line-holds
-            (λ j ne. aside h e fresh j (b .lines j) (record { no-opening = refl; no-closing = rw ne; no-payments = λ y. refl; no-kept = refl; no-loss = rw ne; no-paid = rw ne }) (i .lines j));
+            (λ j ne. aside h e fresh j (b .lines j) (record { no-opening = refl; no-closing = rw ne; no-payments = λ y. refl; no-kept = refl; no-year = rw ne; no-loss = rw ne; no-paid = rw ne; no-paid-answered = rw ne }) (i .lines j));
         entries = entries-with h e fresh (i .entries) (entry-with h e fresh b (e .answer) (e .later) (e .call) year-holds);
       }

@@ -1,6 +1,6 @@
 -- Demand 3, proved of every list of requests from the empty book; and of the lines of every input.
 -- Assumes nothing.
-use mathlib.Core.Path.{_≡_, refl, sym, ap, _∙_}
+use mathlib.Core.Path.{_≡_, refl, sym, ap, _∙_, _≡⟨_⟩_, _∎}
 use mathlib.Core.Bool.{Bool}
 use mathlib.Core.List.{List, [], _∷_, _++_, append-assoc, append-nil}
 use mathlib.Core.Option.{Option, none, some}
@@ -9,15 +9,15 @@ use borrow.Author.Tests.{eqb-true}
 use lib.Dec.{eqb}
 use lib.ListN.{length}
 use lib.Seq.{take-nil}
-use lib.IntN.{ℤ, pos, _+ℤ_, _-ℤ_, +ℤ-negℤ-cancel}
+use lib.IntN.{ℤ, pos, negℤ, _+ℤ_, _-ℤ_, +ℤ-assoc, +ℤ-comm, +ℤ-negℤ-cancel}
 use Rattle.model.specs.Letter.{ages}
-use Rattle.model.specs.Book.{Book, Line, Closed, latest, empty}
-use Rattle.model.specs.Call.{Call, declare, setRate, addPattern, closeYear}
+use Rattle.model.specs.Book.{Book, Totals, Line, Closed, latest, empty}
+use Rattle.model.specs.Call.{Call, declare, setRate, addPattern, closeYear, totals}
 use Rattle.model.specs.Question.{isYearOf, isOpen, firstNo}
 use Rattle.model.specs.Step.{Request, asked, questions, refuse, accept, step}
 use Rattle.model.specs.Run.{after, recordsOf}
-use Rattle.model.specs.History.{Entry, entry, enter, accepted, listed, ratesIn, paymentsIn, keptIn, openingsIn, paidIn, lossesIn, closedIn}
-use Rattle.model.specs.Demand.{LossesAddUp, Demand}
+use Rattle.model.specs.History.{Entry, entry, enter, accepted, listed, ratesIn, paymentsIn, keptIn, openingsIn, yearsIn, paidIn, paidAnsweredIn, lossesIn, closedIn}
+use Rattle.model.specs.Demand.{LossesAddUp, Reconciles, Sums, TotalsHold, Demand}
 use Rattle.model.proofs.Lists.{some≢none, cons≢nil, and-left, and-right}
 use Rattle.model.proofs.Steps.{step-is}
 use Rattle.model.proofs.Passed.{Passed, passed}
@@ -28,6 +28,7 @@ use Rattle.model.proofs.AcceptLine.{accept-line}
 use Rattle.model.proofs.AcceptRate.{accept-rate}
 use Rattle.model.proofs.AcceptPattern.{accept-pattern}
 use Rattle.model.proofs.AcceptYear.{accept-year}
+use Rattle.model.proofs.AcceptTotals.{accept-totals}
 
 -- an accepted call, and a refused one
 abbrev made-entry : Book → Call → Entry
@@ -45,6 +46,7 @@ accept-holds h b (addPattern letter year paid incurred) i p =
     (p .declared) (p .rate) (p .turn)
 accept-holds h b (closeYear letter year paid unpaid tabular) i p =
     accept-year h b letter year paid unpaid tabular i (p .lengths) (p .declared) (and-left (isYearOf (latest (b .lines letter .kept)) year) (isOpen (b .lines letter .closed) year) (p .turn)) (p .patterns)
+accept-holds h b (totals letter) i p = accept-totals h b letter _ _ _ i
 
 refuse-holds : (h : List Entry) (b : Book) (question : ℕ) → Invariant h b → Invariant h (refuse b question .book)
 unfolding refuse
@@ -65,7 +67,7 @@ all (r ∷ rs) h b i = one h b r rs i (all rs) (firstNo (questions b r)) refl
 
 -- the empty book and no entries
 no-line : (letter : ℕ) → LineHolds [] letter (empty .lines letter)
-unfolding openingsIn closedIn keptIn paymentsIn lossesIn paidIn ages
+unfolding openingsIn closedIn keptIn paymentsIn yearsIn lossesIn paidIn paidAnsweredIn ages
 no-line letter =
     record {
       declared = refl;
@@ -76,6 +78,8 @@ no-line letter =
       patterns = tt;
       newest = λ year pay more s. absurd (cons≢nil pay more (sym s));
       balance = refl;
+      sums = record { years = refl; paid = refl; paid-answered = refl; losses = refl };
+      zeros = λ u. refl;
     }
 
 none-yet : Invariant [] empty
@@ -94,6 +98,29 @@ losses-add-up h letter line (some declared) last e l s =
       add-up = sym (+ℤ-negℤ-cancel (lossesIn h letter) (pos declared)) ∙ ap (λ (x : ℤ). x -ℤ pos declared) w;
     }
 
+-- losses x and paid q: what they add up to, the paid taken away
+less : (x q c d : ℤ) → x ≡ q +ℤ c -ℤ d → x -ℤ q ≡ c -ℤ d
+less x q c d e =
+    x -ℤ q
+    ≡⟨ ap (λ (w : ℤ). w -ℤ q) (e ∙ +ℤ-assoc q c (negℤ d) ∙ +ℤ-comm q (c -ℤ d)) ⟩ c -ℤ d +ℤ q -ℤ q
+    ≡⟨ +ℤ-negℤ-cancel (c -ℤ d) q ⟩ c -ℤ d ∎
+
+reconcile : (h : List Entry) (letter lastClosing : ℕ) (figures : Totals) → Sums h letter figures → LossesAddUp h letter lastClosing → Reconciles h letter lastClosing figures
+reconcile h letter lastClosing figures s a =
+    record {
+      declared = a .declared;
+      from-line = a .from-line;
+      less-paid = rw (s .losses, s .paid) (less (lossesIn h letter) (paidIn h letter) (pos lastClosing) (pos (a .declared)) (a .add-up));
+    }
+
+totals-hold : (h : List Entry) (letter : ℕ) (line : Line) → LineHolds h letter line → TotalsHold h letter (line .totals)
+totals-hold h letter line l =
+    record {
+      sums = l .sums;
+      reconciles = λ last s. reconcile h letter (last .closing) (line .totals) (l .sums) (losses-add-up h letter line (line .opening) last refl l s);
+      zeros = λ s. l .zeros (l .closed ∙ s);
+    }
+
 pub demand : (requests : List Request) → Demand requests
 demand requests =
     let h = accepted empty requests in
@@ -105,6 +132,7 @@ demand requests =
       kept = λ letter. i .lines letter .kept;
       losses = λ letter last s. losses-add-up h letter (b .lines letter) (b .lines letter .opening) last refl (i .lines letter) s;
       closed = λ letter. i .lines letter .closed;
+      totals = λ letter. totals-hold h letter (b .lines letter) (i .lines letter);
     }
 
 -- the records of any input

@@ -12,9 +12,9 @@ use Rattle.model.specs.Basics.{total}
 use Rattle.model.specs.Row.{Row, rowsOf, gross}
 use Rattle.model.specs.Book.{Book, Line, Kept}
 use Rattle.model.specs.YearEnd.{discountedRow}
-use Rattle.model.specs.Call.{Call, declare, setRate, addPattern, closeYear}
+use Rattle.model.specs.Call.{Call, declare, setRate, addPattern, closeYear, totals}
 use Rattle.model.specs.Answer.{Answer}
-use Rattle.model.specs.History.{Entry, listed, gather, orElse, lastOf, rateFrom, paymentsFrom, keptFrom, declaredFrom, paidFrom, lossFrom, closedFrom, ratesIn, paymentsIn, keptIn, openingsIn, paidIn, lossesIn, closedIn}
+use Rattle.model.specs.History.{Entry, listed, gather, orElse, lastOf, rateFrom, paymentsFrom, keptFrom, declaredFrom, yearFrom, paidFrom, paidAnswered, lossFrom, closedFrom, ratesIn, paymentsIn, keptIn, openingsIn, yearsIn, paidIn, paidAnsweredIn, lossesIn, closedIn}
 use Rattle.model.specs.Demand.{Given, KeptNear, PatternHolds, RowHolds, EntryHolds, rowYear, rowExact}
 use Rattle.model.proofs.Lists.{only, every-at-map}
 use Rattle.model.proofs.RowBound.{nothing-near}
@@ -60,6 +60,10 @@ module _ (h : List Entry) (e : Entry) where
   unfolding openingsIn
   openings-with letter = gather-snoc (λ x. declaredFrom letter (x .call)) h e
 
+  pub years-with : (letter : ℕ) → yearsIn (with h e) letter ≡ yearsIn h letter ++ listed (yearFrom letter (e .call))
+  unfolding yearsIn
+  years-with letter = gather-snoc (λ x. yearFrom letter (x .call)) h e
+
   pub closed-with : (letter : ℕ) → closedIn (with h e) letter ≡ orElse (closedFrom letter (e .answer)) (closedIn h letter)
   unfolding closedIn
   closed-with letter = last-snoc (λ x. closedFrom letter (x .answer)) h e
@@ -71,6 +75,10 @@ module _ (h : List Entry) (e : Entry) where
   pub paid-with : (letter : ℕ) → paidIn (with h e) letter ≡ paidIn h letter +ℤ paidFrom letter (e .call)
   unfolding paidIn
   paid-with letter = total-snoc (λ x. paidFrom letter (x .call)) h e
+
+  pub paid-answered-with : (letter : ℕ) → paidAnsweredIn (with h e) letter ≡ paidAnsweredIn h letter +ℤ paidAnswered letter (e .answer)
+  unfolding paidAnsweredIn
+  paid-answered-with letter = total-snoc (λ x. paidAnswered letter (x .answer)) h e
 
 -- the entry gives no rate and no pattern that the entries have already
 pub record Fresh (h : List Entry) (e : Entry) : Type 0 where
@@ -132,3 +140,4 @@ module _ (h : List Entry) (e : Entry) (fresh : Fresh h e) where
             (λ k row. row-with letter year k row (discountedRow letter line year k row))
             0 (rowsOf paid unpaid tabular) (n .each);
       }
+  entry-with before answer later (totals letter) n = tt

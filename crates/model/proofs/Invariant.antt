@@ -8,11 +8,12 @@ use lib.ListN.{take}
 use lib.IntN.{pos, _+ℤ_, +ℤ-idr}
 use Rattle.model.specs.Basics.{orDefault, Every}
 use Rattle.model.specs.Letter.{ages}
-use Rattle.model.specs.Book.{Book, Line, Kept, latest}
+use Rattle.model.specs.Book.{Book, noTotals, Line, Kept, latest}
 use Rattle.model.specs.YearEnd.{opening}
-use Rattle.model.specs.History.{Entry, listed, rateFrom, paymentsFrom, keptFrom, declaredFrom, paidFrom, lossFrom, closedFrom, ratesIn, paymentsIn, keptIn, openingsIn, paidIn, lossesIn, closedIn}
-use Rattle.model.specs.Demand.{KeptNear, EntryHolds}
+use Rattle.model.specs.History.{Entry, listed, rateFrom, paymentsFrom, keptFrom, declaredFrom, yearFrom, paidFrom, paidAnswered, lossFrom, closedFrom, ratesIn, paymentsIn, keptIn, openingsIn, paidIn, lossesIn, closedIn}
+use Rattle.model.specs.Demand.{Sums, KeptNear, EntryHolds}
 use Rattle.model.proofs.Lists.{every-map, every-snoc}
+use Rattle.model.proofs.Sums.{sums-same}
 use Rattle.model.proofs.Entries.{with, rates-with, payments-with, kept-with, openings-with, closed-with, losses-with, paid-with, Fresh, kept-near-with, entry-with}
 
 -- the last kept pattern is of that year or of a later one
@@ -30,6 +31,8 @@ pub record LineHolds (h : List Entry) (letter : ℕ) (line : Line) : Type 0 wher
   pub patterns : Every (KeptNear h letter) (line .kept)
   pub newest : (year : ℕ) (pay : List ℕ) (more : List (List ℕ)) → paymentsIn h letter year ≡ pay ∷ more → Reached (latest (line .kept)) year
   pub balance : lossesIn h letter +ℤ pos (orDefault (line .opening) 0) ≡ paidIn h letter +ℤ pos (opening line)
+  pub sums : Sums h letter (line .totals)
+  pub zeros : line .closed ≡ none → line .totals ≡ noTotals
 
 abbrev pub Holding : List Entry → Entry → Type 0
 Holding h e = EntryHolds h (e .before) (e .answer) (e .later) (e .call)
@@ -45,8 +48,10 @@ pub record Aside (e : Entry) (letter : ℕ) : Type 0 where
   pub no-closing : closedFrom letter (e .answer) ≡ none
   pub no-payments : (year : ℕ) → paymentsFrom letter year (e .call) ≡ none
   pub no-kept : keptFrom letter (e .call) (e .later) ≡ none
+  pub no-year : yearFrom letter (e .call) ≡ none
   pub no-loss : lossFrom letter (e .answer) ≡ pos 0
   pub no-paid : paidFrom letter (e .call) ≡ pos 0
+  pub no-paid-answered : paidAnswered letter (e .answer) ≡ pos 0
 
 module _ (h : List Entry) (e : Entry) (fresh : Fresh h e) where
   pub all-near-with : (letter : ℕ) (kept : List Kept) → Every (KeptNear h letter) kept → Every (KeptNear (with h e) letter) kept
@@ -63,6 +68,8 @@ module _ (h : List Entry) (e : Entry) (fresh : Fresh h e) where
         patterns = all-near-with letter (line .kept) (l .patterns);
         newest = λ year pay more s. l .newest year pay more (rw (payments-with h e letter year, a .no-payments year, append-nil (paymentsIn h letter year)) at s);
         balance = rw (losses-with h e letter, paid-with h e letter, a .no-loss, a .no-paid, +ℤ-idr (lossesIn h letter), +ℤ-idr (paidIn h letter)) (l .balance);
+        sums = sums-same h e letter (line .totals) (l .sums) (a .no-year) (a .no-paid) (a .no-paid-answered) (a .no-loss);
+        zeros = l .zeros;
       }
 
   -- the earlier entries, and the new one

@@ -1,6 +1,7 @@
 pub mod AcceptLine
 pub mod AcceptPattern
 pub mod AcceptRate
+pub mod AcceptTotals
 pub mod AcceptYear
 pub mod Ages
 pub mod CompositeBounds
@@ -23,6 +24,8 @@ pub mod Rows
 pub mod Sample
 pub mod Sharp
 pub mod Steps
+pub mod Sums
 pub mod Tail
+pub mod Totals
 pub mod Unpaid
 pub mod YearRows

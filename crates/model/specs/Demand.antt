@@ -1,9 +1,9 @@
--- Demand 3 of document 01: "a single claim about the whole list, not one for each record".
+-- Demand 3 of document 01: "a single claim about the whole list, not one for each record"; and F-2's totals, over the same list.
 -- Throughout, h is the accepted records of the list, in order, and age k + 1 is at place k.
 -- Assumes nothing: these are definitions.
 use mathlib.Core.Path.{_≡_}
 use mathlib.Core.List.{List, [], _∷_, reverse}
-use mathlib.Core.Option.{some}
+use mathlib.Core.Option.{none, some}
 use Prim.Native.Nat.{ℕ, suc, _+_, _-_, _<_}
 use lib.Dec.{ltb}
 use lib.ListN.{length, take, drop, getD}
@@ -15,14 +15,14 @@ use Rattle.model.specs.Pattern.{unpaid}
 use Rattle.model.specs.Factor.{factors}
 use Rattle.model.specs.Exact.{Fraction, exactRatio, exactComposite, compositeUnpaid}
 use Rattle.model.specs.Row.{Row, rowsOf, gross}
-use Rattle.model.specs.Book.{Book, Line, Kept, Closed, empty, latest}
+use Rattle.model.specs.Book.{Book, Totals, noTotals, Line, Kept, Closed, empty, latest}
 use Rattle.model.specs.YearEnd.{discountedRow, discountedRows}
-use Rattle.model.specs.Call.{Call, declare, setRate, addPattern, closeYear}
+use Rattle.model.specs.Call.{Call, declare, setRate, addPattern, closeYear, totals}
 use Rattle.model.specs.Answer.{Answer}
 use Rattle.model.specs.Step.{Request}
 use Rattle.model.specs.Run.{after}
 use Rattle.model.specs.Near.{FactorNear, RowNear}
-use Rattle.model.specs.History.{Entry, accepted, ratesIn, paymentsIn, keptIn, openingsIn, paidIn, lossesIn, closedIn, closedFrom}
+use Rattle.model.specs.History.{Entry, accepted, ratesIn, paymentsIn, keptIn, openingsIn, yearsIn, paidIn, paidAnsweredIn, lossesIn, closedIn, closedFrom}
 
 -- "A pattern and its exact ratios come from the PATT of that letter and accident year, with the rate from that year's RATE.": h has one of each, which give the payments and the rate
 pub record Given (h : List Entry) (letter year rate : ℕ) (pay : List ℕ) : Type 0 where
@@ -85,12 +85,34 @@ EntryHolds h before answer later (setRate year months) = Unit {0}
 EntryHolds h before answer later (addPattern letter year paid incurred) = PatternHolds h (later .lines letter) letter year
 EntryHolds h before answer later (closeYear letter year paid unpaid tabular) =
     YearHolds h (before .lines letter) answer letter year (rowsOf paid unpaid tabular)
+EntryHolds h before answer later (totals letter) = Unit {0}
 
 -- (iii) "a line's losses sum to its payments plus last closing less declared opening"
 pub record LossesAddUp (h : List Entry) (letter lastClosing : ℕ) : Type 0 where
   pub declared : ℕ
   pub from-line : openingsIn h letter ≡ declared ∷ []
   pub add-up : lossesIn h letter ≡ paidIn h letter +ℤ pos lastClosing -ℤ pos declared
+
+-- F-2: "once a year is closed, losses less paid are the last closing less the declared opening"
+pub record Reconciles (h : List Entry) (letter lastClosing : ℕ) (figures : Totals) : Type 0 where
+  pub declared : ℕ
+  pub from-line : openingsIn h letter ≡ declared ∷ []
+  pub less-paid : figures .losses -ℤ figures .paid ≡ pos lastClosing -ℤ pos declared
+
+-- F-2: "The figures equal the sums over the accepted YEAR records of that line"
+pub record Sums (h : List Entry) (letter : ℕ) (figures : Totals) : Type 0 where
+  pub years : figures .years ≡ length (yearsIn h letter)
+  -- every paid in these records, and the same as answered
+  pub paid : figures .paid ≡ paidIn h letter
+  pub paid-answered : figures .paid ≡ paidAnsweredIn h letter
+  pub losses : figures .losses ≡ lossesIn h letter
+
+-- the totals of a line
+pub record TotalsHold (h : List Entry) (letter : ℕ) (figures : Totals) : Type 0 where
+  pub sums : Sums h letter figures
+  pub reconciles : (last : Closed) → closedIn h letter ≡ some last → Reconciles h letter (last .closing) figures
+  -- "A line with no closed year prints zeros."
+  pub zeros : closedIn h letter ≡ none → figures ≡ noTotals
 
 -- all of it, b being the book after the list
 pub record Holds (h : List Entry) (b : Book) : Type 0 where
@@ -104,6 +126,8 @@ pub record Holds (h : List Entry) (b : Book) : Type 0 where
   pub losses : (letter : ℕ) (last : Closed) → closedIn h letter ≡ some last → LossesAddUp h letter (last .closing)
   -- the closing that the book holds is the last one answered
   pub closed : (letter : ℕ) → b .lines letter .closed ≡ closedIn h letter
+  -- every line's totals
+  pub totals : (letter : ℕ) → TotalsHold h letter (b .lines letter .totals)
 
 -- of every list, from the empty book
 abbrev pub Demand : List Request → Type 0

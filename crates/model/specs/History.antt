@@ -11,8 +11,8 @@ use Rattle.model.specs.Rate.{rateOf}
 use Rattle.model.specs.Pattern.{agesOf}
 use Rattle.model.specs.Tail.{schedule}
 use Rattle.model.specs.Book.{Book, Kept, Closed, latest}
-use Rattle.model.specs.Call.{Call, declare, setRate, addPattern, closeYear}
-use Rattle.model.specs.Answer.{Answer, declared, rated, fact, tax, refusal}
+use Rattle.model.specs.Call.{Call, declare, setRate, addPattern, closeYear, totals}
+use Rattle.model.specs.Answer.{Answer, declared, rated, fact, tax, summed, refusal}
 use Rattle.model.specs.Question.{firstNo}
 use Rattle.model.specs.Step.{Request, asked, questions, step}
 
@@ -61,6 +61,7 @@ rateFrom y (declare letter opening) = none
 rateFrom y (setRate year months) = if eqb y year then some (rateOf months) else none
 rateFrom y (addPattern letter year paid incurred) = none
 rateFrom y (closeYear letter year paid unpaid tabular) = none
+rateFrom y (totals letter) = none
 
 -- the payments by age that a call gives for the letter and the accident year
 abbrev pub paymentsFrom : ℕ → ℕ → Call → Option (List ℕ)
@@ -68,6 +69,7 @@ paymentsFrom l y (declare letter opening) = none
 paymentsFrom l y (setRate year months) = none
 paymentsFrom l y (addPattern letter year paid incurred) = if eqb l letter && eqb y year then some (schedule letter (agesOf paid incurred)) else none
 paymentsFrom l y (closeYear letter year paid unpaid tabular) = none
+paymentsFrom l y (totals letter) = none
 
 -- the pattern that the book keeps last after a call that gives one for the letter
 abbrev pub keptFrom : ℕ → Call → Book → Option Kept
@@ -75,6 +77,7 @@ keptFrom l (declare letter opening) later = none
 keptFrom l (setRate year months) later = none
 keptFrom l (addPattern letter year paid incurred) later = if eqb l letter then latest (later .lines letter .kept) else none
 keptFrom l (closeYear letter year paid unpaid tabular) later = none
+keptFrom l (totals letter) later = none
 
 -- the opening that a call declares for the letter
 abbrev pub declaredFrom : ℕ → Call → Option ℕ
@@ -82,6 +85,15 @@ declaredFrom l (declare letter opening) = if eqb l letter then some opening else
 declaredFrom l (setRate year months) = none
 declaredFrom l (addPattern letter year paid incurred) = none
 declaredFrom l (closeYear letter year paid unpaid tabular) = none
+declaredFrom l (totals letter) = none
+
+-- the year that a call closes for the letter
+abbrev pub yearFrom : ℕ → Call → Option ℕ
+yearFrom l (declare letter opening) = none
+yearFrom l (setRate year months) = none
+yearFrom l (addPattern letter year paid incurred) = none
+yearFrom l (closeYear letter year paid unpaid tabular) = if eqb l letter then some year else none
+yearFrom l (totals letter) = none
 
 -- the sum of every paid that a call which closes a year of the letter lists, the prior row's too; 0 of any other
 abbrev pub paidFrom : ℕ → Call → ℤ
@@ -89,13 +101,23 @@ paidFrom l (declare letter opening) = pos 0
 paidFrom l (setRate year months) = pos 0
 paidFrom l (addPattern letter year paid incurred) = pos 0
 paidFrom l (closeYear letter year paid unpaid tabular) = if eqb l letter then total (λ v. v) paid else pos 0
+paidFrom l (totals letter) = pos 0
 
--- the loss, and the year with its closing, that a TAX of the letter answers
+-- the paid, the loss, and the year with its closing, that a TAX of the letter answers
+abbrev pub paidAnswered : ℕ → Answer → ℤ
+paidAnswered l (declared letter opening) = pos 0
+paidAnswered l (rated year rate) = pos 0
+paidAnswered l (fact letter year factors composite) = pos 0
+paidAnswered l (tax letter year paid opening closing loss) = if eqb l letter then paid else pos 0
+paidAnswered l (summed letter years paid losses) = pos 0
+paidAnswered l (refusal question) = pos 0
+
 abbrev pub lossFrom : ℕ → Answer → ℤ
 lossFrom l (declared letter opening) = pos 0
 lossFrom l (rated year rate) = pos 0
 lossFrom l (fact letter year factors composite) = pos 0
 lossFrom l (tax letter year paid opening closing loss) = if eqb l letter then loss else pos 0
+lossFrom l (summed letter years paid losses) = pos 0
 lossFrom l (refusal question) = pos 0
 
 abbrev pub closedFrom : ℕ → Answer → Option Closed
@@ -103,6 +125,7 @@ closedFrom l (declared letter opening) = none
 closedFrom l (rated year rate) = none
 closedFrom l (fact letter year factors composite) = none
 closedFrom l (tax letter year paid opening closing loss) = if eqb l letter then some (record { year = year; closing = closing }) else none
+closedFrom l (summed letter years paid losses) = none
 closedFrom l (refusal question) = none
 
 -- "with the rate from that year's RATE": the rates of all accepted RATEs of the year
@@ -121,9 +144,17 @@ keptIn h l = gather (λ e. keptFrom l (e .call) (e .later)) h
 unfoldable pub openingsIn : List Entry → ℕ → List ℕ
 openingsIn h l = gather (λ e. declaredFrom l (e .call)) h
 
+-- the years of all accepted YEARs of the letter
+unfoldable pub yearsIn : List Entry → ℕ → List ℕ
+yearsIn h l = gather (λ e. yearFrom l (e .call)) h
+
 -- "Their payments are the sum of every paid in these records, prior rows too."
 unfoldable pub paidIn : List Entry → ℕ → ℤ
 paidIn h l = total (λ e. paidFrom l (e .call)) h
+
+-- and as answered in TAX
+unfoldable pub paidAnsweredIn : List Entry → ℕ → ℤ
+paidAnsweredIn h l = total (λ e. paidAnswered l (e .answer)) h
 
 -- "Their losses and the last closing are as answered in TAX."
 unfoldable pub lossesIn : List Entry → ℕ → ℤ

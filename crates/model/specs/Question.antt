@@ -13,20 +13,21 @@ use Rattle.model.specs.Letter.{covered, ages}
 use Rattle.model.specs.Pattern.{Age, agesOf, cumulativeRatio}
 use Rattle.model.specs.Row.{Row, rowsOf, gross}
 use Rattle.model.specs.Book.{Book, Kept, Closed, latest, find}
-use Rattle.model.specs.Call.{Call, declare, setRate, addPattern, closeYear}
+use Rattle.model.specs.Call.{Call, declare, setRate, addPattern, closeYear, totals}
 use Rattle.model.specs.Field.{fields, field, letterIn}
-use Rattle.model.specs.Record.{Word, LINE, RATE, PATT, YEAR, OTHER, wordOf, fieldCount, firstNumber, allWritten, callFrom}
+use Rattle.model.specs.Record.{Word, LINE, RATE, PATT, YEAR, SUM, OTHER, wordOf, fieldCount, firstNumber, allWritten, callFrom}
 
 -- "1. Has the line at most 1,024 bytes?"
 abbrev pub isShort : List ℕ → Bool
 isShort line = leb (length line) 1024
 
--- "2. Is the first field, byte for byte, one of the four words?"
+-- "2. Is the first field, byte for byte, one of the four words?": F-2, "New records' words, here and below, join question 2's."
 abbrev pub hasWord : Word → Bool
 hasWord LINE = true
 hasWord RATE = true
 hasWord PATT = true
 hasWord YEAR = true
+hasWord SUM = true
 hasWord OTHER = false
 
 -- "3. But for RATE: is the second field a covered letter? (no second field is a no)"
@@ -35,6 +36,7 @@ hasLetter (declare letter opening) = covered letter
 hasLetter (setRate year months) = true
 hasLetter (addPattern letter year paid incurred) = covered letter
 hasLetter (closeYear letter year paid unpaid tabular) = covered letter
+hasLetter (totals letter) = covered letter
 
 -- "4. Is the count of fields right?"
 abbrev pub hasFields : Word → List (List ℕ) → Bool
@@ -47,6 +49,7 @@ hasLengths (setRate year months) = eqb (length months) 60
 hasLengths (addPattern letter year paid incurred) = eqb (length paid) (ages letter) && eqb (length incurred) (ages letter)
 hasLengths (closeYear letter year paid unpaid tabular) =
     eqb (length paid) (suc (ages letter)) && eqb (length unpaid) (suc (ages letter)) && eqb (length tabular) (suc (ages letter))
+hasLengths (totals letter) = true
 
 -- "5. Is every number well written?"
 abbrev pub isWellWritten : Word → List (List ℕ) → Bool
@@ -58,6 +61,7 @@ isWithinLimits (declare letter opening) = isOpening opening
 isWithinLimits (setRate year months) = isYear year && all isRate months
 isWithinLimits (addPattern letter year paid incurred) = isYear year && all isAmount paid && all isAmount incurred
 isWithinLimits (closeYear letter year paid unpaid tabular) = isYear year && all isPaid paid && all isAmount unpaid && all isAmount tabular
+isWithinLimits (totals letter) = true
 
 -- "7. LINE, RATE: is that line or that year's rate still to be given?"
 abbrev pub isToBeGiven : Book → Call → Bool
@@ -65,13 +69,15 @@ isToBeGiven book (declare letter opening) = not (given (book .lines letter .open
 isToBeGiven book (setRate year months) = not (given (book .rates year))
 isToBeGiven book (addPattern letter year paid incurred) = true
 isToBeGiven book (closeYear letter year paid unpaid tabular) = true
+isToBeGiven book (totals letter) = true
 
--- "8. PATT, YEAR: is the line declared?"
+-- "8. PATT, YEAR: is the line declared?": F-2, "SUM has two fields and meets questions 1 to 4 and 8."
 abbrev pub isDeclared : Book → Call → Bool
 isDeclared book (declare letter opening) = true
 isDeclared book (setRate year months) = true
 isDeclared book (addPattern letter year paid incurred) = given (book .lines letter .opening)
 isDeclared book (closeYear letter year paid unpaid tabular) = given (book .lines letter .opening)
+isDeclared book (totals letter) = given (book .lines letter .opening)
 
 -- "9. PATT: has the year a rate?"
 abbrev pub hasRate : Book → Call → Bool
@@ -79,6 +85,7 @@ hasRate book (declare letter opening) = true
 hasRate book (setRate year months) = true
 hasRate book (addPattern letter year paid incurred) = given (book .rates year)
 hasRate book (closeYear letter year paid unpaid tabular) = true
+hasRate book (totals letter) = true
 
 -- "10. PATT: is it the line's first pattern, or the year after its last one, that last one closed if any year is closed?"
 abbrev pub lastIsClosed : Option Closed → ℕ → Bool
@@ -105,6 +112,7 @@ isInTurn book (addPattern letter year paid incurred) =
     follows (latest (book .lines letter .kept)) (book .lines letter .closed) year
 isInTurn book (closeYear letter year paid unpaid tabular) =
     isYearOf (latest (book .lines letter .kept)) year && isOpen (book .lines letter .closed) year
+isInTurn book (totals letter) = true
 
 -- "11. PATT: is every incurred above 0 and no paid above its incurred?"
 abbrev pub isIncurred : Age → Bool
@@ -115,6 +123,7 @@ hasIncurred (declare letter opening) = true
 hasIncurred (setRate year months) = true
 hasIncurred (addPattern letter year paid incurred) = all isIncurred (agesOf paid incurred)
 hasIncurred (closeYear letter year paid unpaid tabular) = true
+hasIncurred (totals letter) = true
 
 -- "12. PATT: does no cumulative ratio fall from one age to the next?": from the ratio before on
 abbrev pub climbsFrom : ℕ → List ℕ → Bool
@@ -126,6 +135,7 @@ climbs (declare letter opening) = true
 climbs (setRate year months) = true
 climbs (addPattern letter year paid incurred) = climbsFrom 0 (map cumulativeRatio (agesOf paid incurred))
 climbs (closeYear letter year paid unpaid tabular) = true
+climbs (totals letter) = true
 
 -- "13. YEAR: has every age row with gross above 0 a kept pattern?": the rows from place k on
 abbrev pub haveKept : List Kept → ℕ → ℕ → List Row → Bool
@@ -138,6 +148,7 @@ hasPatterns book (setRate year months) = true
 hasPatterns book (addPattern letter year paid incurred) = true
 hasPatterns book (closeYear letter year paid unpaid tabular) =
     haveKept (book .lines letter .kept) year 0 (take (ages letter) (rowsOf paid unpaid tabular))
+hasPatterns book (totals letter) = true
 
 -- questions 1 to 6 of a line of bytes
 unfoldable pub lineQuestions : List ℕ → List (ℕ × Bool)

@@ -5,6 +5,7 @@ use mathlib.Core.List.{List, [], _∷_, _++_, map}
 use mathlib.Core.Option.{Option, none, some}
 use Prim.Native.Nat.{ℕ, _+_, min}
 use lib.ListN.{take}
+use lib.IntN.{ℤ, _+ℤ_}
 use Rattle.model.specs.Basics.{orDefault, put}
 use Rattle.model.specs.Letter.{ages}
 use Rattle.model.specs.Rate.{rateOf}
@@ -14,13 +15,13 @@ use Rattle.model.specs.Factor.{keptFactors}
 use Rattle.model.specs.Composite.{composite}
 use Rattle.model.specs.Published.{published}
 use Rattle.model.specs.Row.{rowsOf}
-use Rattle.model.specs.Book.{Book, Line, Kept}
+use Rattle.model.specs.Book.{Book, Totals, noTotals, Line, Kept}
 use Rattle.model.specs.YearEnd.{closing, opening, paidTotal, loss}
-use Rattle.model.specs.Call.{Call, declare, setRate, addPattern, closeYear}
+use Rattle.model.specs.Call.{Call, declare, setRate, addPattern, closeYear, totals}
 use Rattle.model.specs.Field.{fields, field}
 use Rattle.model.specs.Record.{wordOf, callFrom}
 use Rattle.model.specs.Question.{lineQuestions, callQuestions, bookQuestions, firstNo}
-use Rattle.model.specs.Answer.{Answer, declared, rated, fact, tax, refusal}
+use Rattle.model.specs.Answer.{Answer, declared, rated, fact, tax, summed, refusal}
 
 -- a record, by the bytes of its line; or a call with numbers
 pub data Request : Type 0 where
@@ -68,9 +69,13 @@ abbrev pub withRate : Book → ℕ → ℕ → Book
 withRate book year rate =
     record { rates = put (book .rates) year (some rate); lines = book .lines; accepted = oneMore (book .accepted); refused = book .refused }
 
+-- the book that SUM leaves (F-2): only the accepted count is another
+abbrev pub counted : Book → Book
+counted book = record { rates = book .rates; lines = book .lines; accepted = oneMore (book .accepted); refused = book .refused }
+
 -- the line that LINE declares
 abbrev pub declaredLine : ℕ → Line
-declaredLine amount = record { opening = some amount; closed = none; kept = [] }
+declaredLine amount = record { opening = some amount; closed = none; kept = []; totals = noTotals }
 
 -- the pattern that PATT has kept
 abbrev pub keptPattern : ℕ → ℕ → ℕ → List ℕ → Kept
@@ -78,11 +83,16 @@ keptPattern letter year rate pay = record { year = year; factors = keptFactors l
 
 -- "A line keeps its latest ten patterns (two-year: two)."
 abbrev pub withPattern : ℕ → Line → Kept → Line
-withPattern letter line pattern = record { opening = line .opening; closed = line .closed; kept = take (ages letter) (pattern ∷ line .kept) }
+withPattern letter line pattern = record { opening = line .opening; closed = line .closed; kept = take (ages letter) (pattern ∷ line .kept); totals = line .totals }
+
+-- F-2: "The figures equal the sums over the accepted YEAR records of that line": the totals with one more
+abbrev pub withYear : Totals → ℤ → ℤ → Totals
+withYear before paid loss = record { years = before .years + 1; paid = before .paid +ℤ paid; losses = before .losses +ℤ loss }
 
 -- the line with one more year closed
-abbrev pub withClosing : Line → ℕ → ℕ → Line
-withClosing line year amount = record { opening = line .opening; closed = some (record { year = year; closing = amount }); kept = line .kept }
+abbrev pub withClosing : Line → ℕ → ℕ → Totals → Line
+withClosing line year amount figures =
+    record { opening = line .opening; closed = some (record { year = year; closing = amount }); kept = line .kept; totals = figures }
 
 unfoldable pub accept : Book → Call → Outcome
 accept book (declare letter amount) = record { book = withLine book letter (declaredLine amount); answer = declared letter amount }
@@ -100,10 +110,14 @@ accept book (closeYear letter year paid unpaid tabular) =
     let rows = rowsOf paid unpaid tabular in
     let amount = closing letter line year rows in
     let before = opening line in
+    let taxLoss = loss (paidTotal rows) amount before in
     record {
-      book = withLine book letter (withClosing line year amount);
-      answer = tax letter year (paidTotal rows) before amount (loss (paidTotal rows) amount before);
+      book = withLine book letter (withClosing line year amount (withYear (line .totals) (paidTotal rows) taxLoss));
+      answer = tax letter year (paidTotal rows) before amount taxLoss;
     }
+accept book (totals letter) =
+    let figures = book .lines letter .totals in
+    record { book = counted book; answer = summed letter (figures .years) (figures .paid) (figures .losses) }
 
 -- "A "no" refuses with that question's number."
 abbrev pub settle : Option ℕ → Book → Call → Outcome

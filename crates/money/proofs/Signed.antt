@@ -6,7 +6,7 @@ use Prim.Native.Nat.{ℕ, zero, suc, _+_, _-_, _≤_, _<_, _^_}
 use native.Mathlib.Omega.{arith}
 use borrow.Author.Tests.{ltb-true, ltb-false, le-leb, lt-leb}
 use lib.Dec.{leb, ltb}
-use lib.IntN.{ℤ, pos, negsuc, natAbs, negℤ, _+ℤ_}
+use lib.IntN.{ℤ, pos, negsuc, natAbs, negℤ, _+ℤ_, _-ℤ_}
 use lib.Signed.{ltZ, leZ}
 use mir.Syntax.{w64}
 use mir.Val.{SFits, toZ, ofZ}
@@ -46,6 +46,15 @@ sum-size (pos a) (pos b) = omega arith
 sum-size (pos a) (negsuc b) = difference-size a (suc b) (ltb a (suc b)) refl
 sum-size (negsuc a) (pos b) = let h = difference-size b (suc a) (ltb b (suc a)) refl in omega arith
 sum-size (negsuc a) (negsuc b) = omega arith
+
+-- two numbers that are at most m apart
+apart-by : (a b m : ℕ) (t : Bool) → ltb a b ≡ t → a ≤ m + b → b ≤ m + a → natAbs (cond t (negsuc (b - suc a)) (pos (a - b))) ≤ m
+apart-by a b m true e above below = let lt : a < b = ltb-true a b e in omega arith
+apart-by a b m false e above below = omega arith
+
+pub less-size : (a b m : ℕ) → a ≤ m + b → b ≤ m + a → natAbs (pos a -ℤ pos b) ≤ m
+less-size a zero m above below = omega arith
+less-size a (suc b) m above below = apart-by a (suc b) m (ltb a (suc b)) refl above below
 
 pub negative-size : (v : ℤ) → natAbs (negℤ v) ≡ natAbs v
 negative-size (pos zero) = refl

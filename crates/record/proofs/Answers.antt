@@ -10,9 +10,9 @@ use borrow.Author.Tests.{eqb-true}
 use lib.ListN.{length, take, drop, getD}
 use Rattle.model.specs.Basics.{if_then_else_, given}
 use Rattle.model.specs.Letter.{tenYear, ages}
-use Rattle.model.specs.Call.{Call, declare, setRate}
+use Rattle.model.specs.Call.{Call, declare, setRate, totals}
 use Rattle.model.specs.Field.{fields, field, letterIn, column}
-use Rattle.model.specs.Record.{Word, LINE, RATE, PATT, YEAR, OTHER, wordOf, fieldCount, firstNumber, callFrom}
+use Rattle.model.specs.Record.{Word, LINE, RATE, PATT, YEAR, SUM, OTHER, wordOf, fieldCount, firstNumber, callFrom}
 use Rattle.model.specs.Step as model
 use Rattle.model.specs.Question.{isShort, hasWord, hasLetter, hasFields, isWellWritten, isWithinLimits, lineQuestions, callQuestions, firstNo}
 use Rattle.model.proofs.Lists.{some≢none, all-yes}
@@ -52,6 +52,11 @@ record Placed (word : Word) (fs : List (List ℕ)) (minus : List Bool) (sizes : 
   long : length sizes ≡ 62
   signs : (k : ℕ) → firstNumber word ≤ k → k < length fs → getD minus k false ≡ hasMinus (field k fs)
   values : (k : ℕ) → firstNumber word ≤ k → k < length fs → getD sizes k 0 ≡ capped (field k fs)
+
+-- SUM has no numbers
+totals-alike : (fs : List (List ℕ)) → Alike (totals (letterIn fs)) (callFrom SUM fs)
+unfolding callFrom
+totals-alike fs = record { letter = refl; lengths = refl; limits = refl; same = λ e. refl }
 
 -- the calls of the lists, beside the line's
 module _ (fs : List (List ℕ)) (minus : List Bool) (sizes : List ℕ) where
@@ -147,6 +152,7 @@ module _ (line : List ℕ) where
     says-word RATE e h minus sizes p = asks (setRate (getD sizes 1 0) (take 60 (drop 2 sizes))) (rw (← e) (rate-alike (fields line) minus sizes p))
     says-word PATT e h minus sizes p = asks (patternOf (letterIn (fields line)) sizes) (rw (← e) (pattern-alike (fields line) minus sizes p))
     says-word YEAR e h minus sizes p = (asks (yearOf (letterIn (fields line)) minus sizes) (rw (← e) (year-alike (fields line) minus sizes p)), low (fields line) minus sizes p)
+    says-word SUM e h minus sizes p = asks (totals (letterIn (fields line))) (rw (← e) (totals-alike (fields line)))
     says-word OTHER e h minus sizes p = absurd (false≢true h)
 
     module _ (minus : List Bool) (sizes : List ℕ) (lm : length minus ≡ 62) (ls : length sizes ≡ 62) where

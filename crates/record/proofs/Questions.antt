@@ -9,13 +9,14 @@ use borrow.Author.Tests.{eq-eqb, ne-eqb, le-leb, lt-leb}
 use lib.Dec.{eqb}
 use lib.ListN.{length, take, drop}
 use Rattle.model.specs.Basics.{if_then_else_, given}
-use Rattle.model.specs.Letter.{tenYear, twoYear}
+use Rattle.model.specs.Letter.{tenYear, twoYear, covered}
 use Rattle.model.specs.Field.{fields, field, letterIn}
-use Rattle.model.specs.Record.{Word, LINE, RATE, PATT, YEAR, OTHER, wordOf, fieldCount, firstNumber, allWritten, callFrom}
+use Rattle.model.specs.Record.{Word, LINE, RATE, PATT, YEAR, SUM, OTHER, wordOf, fieldCount, firstNumber, allWritten, callFrom}
 use Rattle.model.specs.Question.{isShort, hasWord, hasLetter, hasFields, isWellWritten, isWithinLimits, lineQuestions, firstNo}
 use Rattle.model.proofs.Lists.{and-left, and-right}
 use Rattle.refusal.specs.declared.Refusal.the-variants.{TooLong, UnknownWord, UncoveredLetter, WrongCount, BadlyWritten}
 use Rattle.refusal.specs.Number.{refusalOf}
+use Rattle.field.proofs.Fields.{some-field}
 use Rattle.form.specs.declared.word.Word as code
 use Rattle.form.specs.declared.word.Word.the-variants.{Other}
 use Rattle.form.specs.Word.{named, isLettered}
@@ -27,16 +28,17 @@ use Rattle.record.specs.declared.request.Request.{Request}
 use Rattle.record.specs.declared.request.Asked.{Asked}
 use Rattle.record.specs.declared.request.Asked.the-variants.{Refused}
 
-two : (t : Bool) (a b : ℕ) → (2 < a) × (a ≤ 62) → (2 < b) × (b ≤ 62) → (2 < (if t then a else b)) × ((if t then a else b) ≤ 62)
+two : (t : Bool) (a b : ℕ) → (2 ≤ a) × (a ≤ 62) → (2 ≤ b) × (b ≤ 62) → (2 ≤ (if t then a else b)) × ((if t then a else b) ≤ 62)
 two true a b p q = p
 two false a b p q = q
 
--- there are numbers, and at most 62 fields
-pub room : (word : Word) (letter : ℕ) → hasWord word ≡ true → (firstNumber word < fieldCount word letter) × (fieldCount word letter ≤ 62)
+-- the numbers, if any, are among at most 62 fields
+pub room : (word : Word) (letter : ℕ) → hasWord word ≡ true → (firstNumber word ≤ fieldCount word letter) × (fieldCount word letter ≤ 62)
 room LINE letter h = omega arith
 room RATE letter h = omega arith
 room PATT letter h = two (tenYear letter) 23 7 (omega arith) (omega arith)
 room YEAR letter h = two (tenYear letter) 36 12 (omega arith) (omega arith)
+room SUM letter h = omega arith
 room OTHER letter h = absurd (false≢true h)
 
 -- another word asks nothing
@@ -45,8 +47,8 @@ other-asks word e = rw e
 
 -- questions 4 and 5
 module _ (s : List ℕ) (word : Word) (letter : ℕ) (p : Lettered s word letter) (expected : ℕ) (ex : expected ≡ fieldCount word letter) (place : ℕ) (e : place ≡ firstNumber word) (minus : List Bool) (sizes : List ℕ) where
-  pub numbers-room : length minus ≡ 62 → length sizes ≡ 62 → Room place expected minus sizes
-  numbers-room lm ls = let r = room word letter (p .known) in record { some = omega (arith, r .0); few = omega (arith, r .1); signs = lm; values = ls }
+  pub numbers-room : length minus ≡ 62 → length sizes ≡ 62 → Room (fields s) place expected minus sizes
+  numbers-room lm ls = let r = room word letter (p .known) in record { upto = omega (arith, r .0); few = omega (arith, r .1); there = rw e (p .there); signs = lm; values = ls }
 
   there : expected ≡ fieldCount word (letterIn (fields s))
   there = rw (p .second) at ex
@@ -83,11 +85,27 @@ lettered-is LINE fs = refl
 lettered-is RATE fs = refl
 lettered-is PATT fs = refl
 lettered-is YEAR fs = refl
+lettered-is SUM fs = refl
 lettered-is OTHER fs = refl
 
+-- a record with a covered letter has a second field
+second-there : (fs : List (List ℕ)) → covered (letterIn fs) ≡ true → 2 ≤ length fs
+unfolding tenYear twoYear
+second-there [] h = absurd (false≢true h)
+second-there (f ∷ []) h = absurd (false≢true h)
+second-there (f ∷ g ∷ fs) h = omega arith
+
+before-there : (word : Word) (s : List ℕ) → isLettered word (letterIn (fields s)) ≡ true → firstNumber word ≤ length (fields s)
+before-there LINE s h = second-there (fields s) h
+before-there RATE s h = some-field s
+before-there PATT s h = second-there (fields s) h
+before-there YEAR s h = second-there (fields s) h
+before-there SUM s h = second-there (fields s) h
+before-there OTHER s h = absurd (false≢true h)
+
 module _ (s : List ℕ) (word : Word) (letter : ℕ) (el : letter ≡ letterIn (fields s)) where
-  pub letter-asks : hasWord word ≡ true → Lettered s word letter
-  letter-asks h = record { known = h; second = el }
+  pub letter-asks : hasWord word ≡ true → (t : Bool) → t ≡ isLettered word letter → t ≡ true → Lettered s word letter
+  letter-asks h t et t1 = record { known = h; second = el; there = before-there word s (rw el at (sym et ∙ t1)) }
 
   module _ (t : Bool) (et : t ≡ isLettered word letter) (minus : List Bool) (sizes : List ℕ) (q : Request) where
     answer : hasLetter (callFrom word (fields s)) ≡ t

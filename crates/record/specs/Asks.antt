@@ -7,14 +7,14 @@ use mathlib.Core.Path.{_≡_}
 use Prim.Native.Nat.{ℕ, suc, _+_, _*_, _≤_, _<_}
 use lib.ListN.{getD, take, drop}
 use Rattle.model.specs.Letter.{ages}
-use Rattle.model.specs.Call.{Call, declare, setRate, addPattern, closeYear}
+use Rattle.model.specs.Call.{Call, declare, setRate, addPattern, closeYear, totals}
 use Rattle.model.specs.Question.{lineQuestions, callQuestions, firstNo}
 use Rattle.model.specs.Step as model
 use Rattle.refusal.specs.Number.{numberOf}
 use Rattle.numbers.specs.Number.{most}
 use Rattle.record.specs.Column.{each, sizeAt, paidAt}
 use Rattle.record.specs.declared.request.Asked.{Asked}
-use Rattle.record.specs.declared.request.Asked.the-variants.{Refused, Declare, SetRate, AddPattern, CloseYear}
+use Rattle.record.specs.declared.request.Asked.the-variants.{Refused, Declare, SetRate, AddPattern, CloseYear, Totals}
 
 -- the calls of a PATT and of a YEAR: the model's `callFrom`, of signs and sizes in place of fields
 abbrev pub patternOf : ℕ → List ℕ → Call
@@ -40,3 +40,4 @@ Says Declare letter minus sizes line = Asks line (declare letter (getD sizes 2 0
 Says SetRate letter minus sizes line = Asks line (setRate (getD sizes 1 0) (take 60 (drop 2 sizes)))
 Says AddPattern letter minus sizes line = Asks line (patternOf letter sizes)
 Says CloseYear letter minus sizes line = Asks line (yearOf letter minus sizes) × Low (suc (ages letter)) sizes
+Says Totals letter minus sizes line = Asks line (totals letter)

@@ -3,10 +3,11 @@
 use mathlib.Core.Bool.{Bool, true}
 use mathlib.Core.Path.{_≡_}
 use mathlib.Core.List.{List}
-use Prim.Native.Nat.{ℕ}
+use Prim.Native.Nat.{ℕ, _≤_}
+use lib.ListN.{length}
 use Rattle.model.specs.Basics.{if_then_else_}
 use Rattle.model.specs.Field.{fields, letterIn}
-use Rattle.model.specs.Record.{Word, callFrom}
+use Rattle.model.specs.Record.{Word, firstNumber, callFrom}
 use Rattle.model.specs.Question.{hasWord, hasLetter, hasFields, isWellWritten}
 use Rattle.refusal.specs.declared.Refusal.{Refusal}
 use Rattle.refusal.specs.declared.Refusal.the-variants.{UnknownWord, UncoveredLetter, WrongCount, BadlyWritten}
@@ -31,7 +32,8 @@ fromLetter word fs minus sizes = if hasLetter (callFrom word fs) then fromCount 
 abbrev pub fromWord : Word → List (List ℕ) → List Bool → List ℕ → LineRead
 fromWord word fs minus sizes = if hasWord word then fromLetter word fs minus sizes else unread UnknownWord minus sizes
 
--- one of the four words, and the letter
+-- one of the five words, the letter, and the fields before the first number
 pub record Lettered (line : List ℕ) (word : Word) (letter : ℕ) : Type 0 where
   pub known : hasWord word ≡ true
   pub second : letter ≡ letterIn (fields line)
+  pub there : firstNumber word ≤ length (fields line)

@@ -8,7 +8,7 @@ use Prim.Native.Nat.{ℕ}
 use lib.ListN.{take}
 use Rattle.model.specs.Basics.{if_then_else_, given}
 use Rattle.model.specs.Field.{fields, field, letterIn}
-use Rattle.model.specs.Record.{Word, LINE, RATE, PATT, YEAR, OTHER, wordOf, fieldCount, firstNumber}
+use Rattle.model.specs.Record.{Word, LINE, RATE, PATT, YEAR, SUM, OTHER, wordOf, fieldCount, firstNumber}
 use Rattle.model.specs.Question.{lineQuestions, firstNo}
 use Rattle.refusal.specs.declared.Refusal.{Refusal}
 use Rattle.refusal.specs.declared.Refusal.the-variants.{UnknownWord}
@@ -17,7 +17,7 @@ use Rattle.numbers.specs.Number.{capped, hasMinus}
 use Rattle.record.specs.Gather.{gathered}
 use Rattle.record.specs.declared.request.Request.{Request}
 use Rattle.record.specs.declared.request.Asked.{Asked}
-use Rattle.record.specs.declared.request.Asked.the-variants.{Refused, Declare, SetRate, AddPattern, CloseYear}
+use Rattle.record.specs.declared.request.Asked.the-variants.{Refused, Declare, SetRate, AddPattern, CloseYear, Totals}
 
 -- a refusal and nothing else
 abbrev pub refusedFor : Refusal → Request
@@ -29,6 +29,7 @@ askedOf LINE = Declare
 askedOf RATE = SetRate
 askedOf PATT = AddPattern
 askedOf YEAR = CloseYear
+askedOf SUM = Totals
 askedOf OTHER = Refused UnknownWord
 
 -- the request of a word's call, with the byte of its letter

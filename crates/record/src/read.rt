@@ -39,6 +39,7 @@ fn asked_of(word: Word) -> Asked
         Word::Rate => Asked::SetRate,
         Word::Patt => Asked::AddPattern,
         Word::Year => Asked::CloseYear,
+        Word::Sum => Asked::Totals,
         Word::Other => Asked::Refused(Refusal::UnknownWord),
     }
 }
@@ -80,7 +81,7 @@ fn ask_letter(line: &[u8], word: Word, minus: &mut [bool; 62], sizes: &mut [u64;
     refused(Refusal::UncoveredLetter)
 }
 
-// "2. Is the first field, byte for byte, one of the four words?", and on.
+// "2. Is the first field, byte for byte, one of the four words?" (F-2: "New records' words, here and below, join question 2's."), and on.
 fn ask_word(line: &[u8], word: Word, minus: &mut [bool; 62], sizes: &mut [u64; 62]) -> Request
     ensures { λ r. ⌜ Gives (fromWord (named word) (fields (now (line .entry))) (now (minus .entry)) (now (sizes .entry))) r (now (minus .exit)) (now (sizes .exit)) ⌝ }
 {

@@ -5,7 +5,7 @@ use mathlib.Core.List.{List}
 use mathlib.Core.Path.{_≡_, refl}
 use Prim.Native.Nat.{ℕ, suc, _≤_}
 use borrow.Author.Tests.{le-leb}
-use lib.IntN.{ℤ}
+use lib.IntN.{ℤ, natAbs}
 use Rattle.model.specs.Basics.{all}
 use Rattle.model.specs.Book.{Line}
 use Rattle.model.specs.Call.{closeYear}
@@ -14,14 +14,14 @@ use Rattle.model.specs.Letter.{covered, ages}
 use Rattle.model.specs.Question.{hasLengths, isWithinLimits}
 use Rattle.model.specs.Row.{rowsOf}
 use Rattle.model.specs.YearEnd.{paidTotal, closing, loss}
-use Rattle.model.proofs.YearRows.{length-is, rows-count}
+use Rattle.model.proofs.YearRows.{length-is, rows-count, paid-total-is}
 use Rattle.reserve.specs.Closing.{closingAt}
 use Rattle.year_rows.specs.Limits.{hasLimits}
 use Rattle.reserve.specs.YearEnd.{yearEnd}
 use Rattle.refusal.specs.declared.Verdict.the-variants.{Fine}
 use Rattle.reserve.proofs.Closings.{RowFactors, closing-of-line, factors-within}
 use Rattle.reserve.proofs.Conjunctions.{three}
-use Rattle.reserve.proofs.Lists.{closing-is, closing-small}
+use Rattle.reserve.proofs.Lists.{closing-is, closing-small, paid-small}
 
 regroup : (y a b c : Bool) → (y && a && b && c) ≡ (y && (a && b && c))
 regroup true a b c = refl
@@ -33,6 +33,12 @@ module _ (letter : ℕ) (paid : List ℤ) (unpaid tabular : List ℕ) where
   limits-of-year year = regroup (isYear year) (all isPaid paid) (all isAmount unpaid) (all isAmount tabular)
 
   module _ (lengths : hasLengths (closeYear letter 0 paid unpaid tabular) ≡ true) (limits : hasLimits paid unpaid tabular ≡ true) (factors : List ℕ) where
+    -- what a row can be paid at most, for each of eleven
+    pub paid-limit : natAbs (paidTotal (rowsOf paid unpaid tabular)) ≤ 110000000000
+    paid-limit =
+        rw (paid-total-is letter 0 paid unpaid tabular lengths)
+        (paid-small letter paid unpaid tabular lengths (three (all isPaid paid) (all isAmount unpaid) (all isAmount tabular) limits .0))
+
     -- what a Closing holds
     pub closing-limit : closingAt factors (rowsOf paid unpaid tabular) ≤ 110000000000
     closing-limit =

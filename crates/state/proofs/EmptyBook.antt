@@ -19,6 +19,8 @@ use Rattle.state.specs.Lines.{lineStart, noLine, lineIn, lineAt}
 use Rattle.state.specs.Patterns.{keptBack}
 use Rattle.state.specs.View.{lineOf, linesOf, view, emptyBook, emptyStore}
 use Rattle.state.proofs.Pieces as pieces
+use Rattle.line_limits.proofs.TotalLimits.{none-closed}
+use Rattle.state.specs.Totals.{totalCellsAt}
 use Rattle.state.proofs.RatePlaces.{year-place}
 
 no-rate : (year : ℕ) (t : Bool) → isYear year ≡ t → ratesOf (replicate 113 65535) year ≡ none
@@ -33,7 +35,7 @@ zero-cell (suc n) (suc i) = zero-cell n i
 
 cleared : (at : ℕ) → lineIn (piece emptyStore at 6) ≡ noLine
 cleared at =
-    let cell : (j : ℕ) → j < 6 → getD (piece emptyStore at 6) j 0 ≡ 0 = λ j lt. pieces.cell emptyStore at 6 j lt ∙ zero-cell 1853 (at + j) in
+    let cell : (j : ℕ) → j < 6 → getD (piece emptyStore at 6) j 0 ≡ 0 = λ j lt. pieces.cell emptyStore at 6 j lt ∙ zero-cell size (at + j) in
     rw (cell 0 (omega arith), cell 1 (omega arith), cell 2 (omega arith), cell 3 (omega arith), cell 4 (omega arith), cell 5 (omega arith))
 
 nothing-limited : (letter : ℕ) → limitedOf letter noLine ≡ noLine
@@ -47,7 +49,7 @@ line-cleared letter false c = rw c
 
 no-line : (letter : ℕ) → linesOf emptyStore letter ≡ model.empty .lines letter
 unfolding linesOf lineOf keptBack
-no-line letter = rw (line-cleared letter (covered letter) refl)
+no-line letter = rw (line-cleared letter (covered letter) refl, none-closed (totalCellsAt emptyStore letter))
 
 pub empty-shown : view emptyBook emptyStore ≡ model.empty
 empty-shown = rw (fun-ext (λ (year : ℕ). no-rate year (isYear year) refl), fun-ext (λ (letter : ℕ). no-line letter))

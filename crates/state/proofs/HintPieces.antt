@@ -1,4 +1,4 @@
--- A hint written: the lines and the slots are as they were.
+-- A hint written: the lines, the slots and the totals are as they were.
 -- Assumes nothing.
 use mathlib.Core.Bool.{Bool, true, false}
 use mathlib.Core.List.{List, [], _∷_}
@@ -12,9 +12,11 @@ use Rattle.state.specs.Store.{size}
 use Rattle.state.specs.Hints.{hintStart, withHintOf}
 use Rattle.state.specs.Lines.{lineStart, lineAt}
 use Rattle.state.specs.Patterns.{slotStart, slotAt}
+use Rattle.state.specs.Totals.{totalCellsAt}
 use Rattle.state.proofs.Places.{covered-place}
 use Rattle.state.proofs.RatePlaces.{year-place}
 use Rattle.state.proofs.Pieces as pieces
+use Rattle.state.proofs.TotalPieces.{totals-past}
 
 module _ (store : List ℕ) (year hint : ℕ) (y : isYear year ≡ true) (n : length store ≡ size) where
   abbrev later : List ℕ
@@ -38,3 +40,6 @@ module _ (store : List ℕ) (year hint : ℕ) (y : isYear year ≡ true) (n : le
 
   pub slots-same : (letter accident : ℕ) → slotAt later letter accident ≡ slotAt store letter accident
   slots-same letter accident = slot-same letter accident (covered letter) refl
+
+  pub totals-same : (letter : ℕ) → totalCellsAt later letter ≡ totalCellsAt store letter
+  totals-same letter = rw y (totals-past store (hint ∷ []) (hintStart year) room (omega (arith, year-place year y)) letter)

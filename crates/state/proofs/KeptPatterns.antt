@@ -24,8 +24,8 @@ use Rattle.state.specs.View.{lineOf, linesOf}
 use Rattle.state.proofs.FactorLimits.{factors-limited, composite-limited}
 use Rattle.state.proofs.Limited.{pattern-limited}
 use Rattle.state.proofs.LinePieces as line
-use Rattle.state.proofs.SlotPieces.{slot-here, other-letters, earlier-years, lines-same, slot-long}
-use Rattle.state.proofs.Views.{line-same, shown-same, put-shown}
+use Rattle.state.proofs.SlotPieces.{slot-here, other-letters, earlier-years, lines-same, totals-same, slot-long}
+use Rattle.state.proofs.Views.{line-aside, line-same, shown-same, put-shown}
 
 -- n factors, zeros up to ten, and a composite
 module _ (factors : List ℕ) (n composite : ℕ) (l : length factors ≡ n) (few : n ≤ 10) where
@@ -109,19 +109,20 @@ module _ (store : List ℕ) (letter year rate : ℕ) (pay : List ℕ) (c : cover
 
     pattern-kept : lineOf later letter new ≡ withPattern letter (lineOf store letter old) (keptPattern letter year rate pay)
     unfolding lineOf
-    pattern-kept = rw (all-kept (ages letter) (old .kept) (old .last) (ages-small letter) next)
+    pattern-kept = rw (all-kept (ages letter) (old .kept) (old .last) (ages-small letter) next, totals-same store letter year cells c n eleven-cells letter)
 
     -- the other letters are as they were
     elsewhere : (other : ℕ) → (other ≡ letter → ⊥) → linesOf last-store other ≡ linesOf store other
     elsewhere other differ =
-        shown-same later last-store other (line.lines-beside later letter new c long other differ) (line.slots-same later letter new c long other)
-        ∙ shown-same store later other (lines-same store letter year cells c n eleven-cells other) (λ accident. other-letters store letter year cells c n eleven-cells other accident differ)
+        shown-same later last-store other (line.lines-beside later letter new c long other differ) (line-aside later letter new c long other)
+        ∙ shown-same store later other (lines-same store letter year cells c n eleven-cells other)
+        (record { slots = λ accident. other-letters store letter year cells c n eleven-cells other accident differ; totals = totals-same store letter year cells c n eleven-cells other })
 
     -- the view after an accepted PATT
     pub pattern-put : linesOf last-store ≡ put (linesOf store) letter (withPattern letter (lineOf store letter old) (keptPattern letter year rate pay))
     pattern-put =
         put-shown store last-store letter new (line.line-here later letter new c long (pattern-limited letter old l year y next)) elsewhere
-        ∙ ap (put (linesOf store) letter) (line-same later last-store letter (line.slots-same later letter new c long letter) new ∙ pattern-kept)
+        ∙ ap (put (linesOf store) letter) (line-same later last-store letter (line-aside later letter new c long letter) new ∙ pattern-kept)
 
     -- and the slot after it
     pub pattern-shown : patternAt last-store letter year ≡ keptPattern letter year rate pay

@@ -1,4 +1,5 @@
 pub mod CellLimits
+pub mod ClosedYears
 pub mod EmptyBook
 pub mod FactorLimits
 pub mod HintPieces
@@ -10,4 +11,5 @@ pub mod Pieces
 pub mod Places
 pub mod RatePlaces
 pub mod SlotPieces
+pub mod TotalPieces
 pub mod Views

@@ -1,4 +1,4 @@
--- A line written: it is read back, every other line is as it was, and so are the slots.
+-- A line written: it is read back, every other line is as it was, and so are the slots and the totals.
 -- Assumes nothing.
 use mathlib.Core.Bool.{Bool, true, false}
 use mathlib.Core.List.{List}
@@ -15,7 +15,9 @@ use Rattle.line_limits.specs.Limits.{limitedOf}
 use Rattle.state.specs.Store.{piece, written, size}
 use Rattle.state.specs.Lines.{placeOf, lineStart, noLine, lineIn, cellsOf, Limited, lineAt, withLineOf}
 use Rattle.state.specs.Patterns.{slotStart, slotAt}
+use Rattle.state.specs.Totals.{totalCellsAt}
 use Rattle.state.proofs.Places.{covered-place, places-differ}
+use Rattle.state.proofs.TotalPieces.{totals-past}
 use Rattle.state.proofs.Pieces as pieces
 use Rattle.state.proofs.Pieces.{first-or-later}
 
@@ -82,6 +84,10 @@ module _ (store : List ℕ) (letter : ℕ) (line : Line) (c : covered letter ≡
 
   pub slots-same : (other year : ℕ) → slotAt later other year ≡ slotAt store other year
   slots-same other year = slot-same other year (covered other) refl
+
+  -- and so do the totals
+  pub totals-same : (other : ℕ) → totalCellsAt later other ≡ totalCellsAt store other
+  totals-same other = rw c (totals-past store (cellsOf line) (lineStart letter) room (omega (arith, covered-place letter c)) other)
 
   pub line-long : length later ≡ size
   line-long = rw c (pieces.long store (cellsOf line) (lineStart letter) room ∙ n)

@@ -1,4 +1,4 @@
--- A slot written: it holds its cells, every other slot is as it was, and so are the lines.
+-- A slot written: it holds its cells, every other slot is as it was, and so are the lines and the totals.
 -- Assumes nothing.
 use mathlib.Core.Bool.{Bool, true, false}
 use mathlib.Core.List.{List, [], _∷_, _++_}
@@ -11,7 +11,9 @@ use Rattle.model.specs.Letter.{covered}
 use Rattle.state.specs.Store.{piece, written, slotsStart, size}
 use Rattle.state.specs.Lines.{placeOf, lineStart, lineAt}
 use Rattle.state.specs.Patterns.{slotStart, slotAt, factorIn, factorAt, withSlotOf}
+use Rattle.state.specs.Totals.{totalCellsAt}
 use Rattle.state.proofs.Places.{covered-place, places-differ}
+use Rattle.state.proofs.TotalPieces.{totals-past}
 use Rattle.state.proofs.Pieces as pieces
 use Rattle.state.proofs.Pieces.{first-or-later, one-more-cell}
 
@@ -84,6 +86,10 @@ module _ (store : List ℕ) (letter year : ℕ) (cells : List ℕ) (c : covered 
 
   pub lines-same : (other : ℕ) → lineAt later other ≡ lineAt store other
   lines-same other = line-same other (covered other) refl
+
+  -- the totals stand past the slots
+  pub totals-same : (other : ℕ) → totalCellsAt later other ≡ totalCellsAt store other
+  totals-same other = rw c (totals-past store cells (slotStart letter year) room (omega (arith, covered-place letter c)) other)
 
   pub slot-long : length later ≡ size
   slot-long = rw c (pieces.long store cells (slotStart letter year) room ∙ n)

@@ -16,9 +16,10 @@ use Rattle.state.specs.Store.{size}
 use Rattle.state.specs.Hints.{withHintOf}
 use Rattle.state.specs.Lines.{Limited, lineAt, withLineOf}
 use Rattle.state.specs.Patterns.{slotAt, keptBack}
+use Rattle.state.specs.Totals.{totalCellsAt}
 use Rattle.state.specs.View.{lineOf, linesOf}
 use Rattle.state.proofs.HintPieces as hint
-use Rattle.state.proofs.LinePieces.{line-here, lines-beside, slots-same}
+use Rattle.state.proofs.LinePieces.{line-here, lines-beside, slots-same, totals-same}
 
 -- patterns in slots that hold the same
 pub kept-same : (store later : List ℕ) (letter : ℕ) → ((year : ℕ) → slotAt later letter year ≡ slotAt store letter year) → (n year : ℕ) → keptBack later letter n year ≡ keptBack store letter n year
@@ -26,14 +27,18 @@ unfolding keptBack
 kept-same store later letter h zero year = refl
 kept-same store later letter h (suc n) year = rw (h year, kept-same store later letter h n (year - 1))
 
-pub line-same : (store later : List ℕ) (letter : ℕ) → ((year : ℕ) → slotAt later letter year ≡ slotAt store letter year) → (line : Line) → lineOf later letter line ≡ lineOf store letter line
-unfolding lineOf
-line-same store later letter h line = rw (kept-same store later letter h (line .kept) (line .last))
+-- of a line the view shows its cells, its slots and its totals
+pub record Same (store later : List ℕ) (letter : ℕ) : Type 0 where
+  pub slots : (year : ℕ) → slotAt later letter year ≡ slotAt store letter year
+  pub totals : totalCellsAt later letter ≡ totalCellsAt store letter
 
--- a letter whose line and slots are the same
-pub shown-same : (store later : List ℕ) (letter : ℕ) → lineAt later letter ≡ lineAt store letter → ((year : ℕ) → slotAt later letter year ≡ slotAt store letter year) → linesOf later letter ≡ linesOf store letter
+pub line-same : (store later : List ℕ) (letter : ℕ) → Same store later letter → (line : Line) → lineOf later letter line ≡ lineOf store letter line
+unfolding lineOf
+line-same store later letter s line = rw (kept-same store later letter (s .slots) (line .kept) (line .last), s .totals)
+
+pub shown-same : (store later : List ℕ) (letter : ℕ) → lineAt later letter ≡ lineAt store letter → Same store later letter → linesOf later letter ≡ linesOf store letter
 unfolding linesOf
-shown-same store later letter e h = rw e (line-same store later letter h (lineAt store letter))
+shown-same store later letter e s = rw e (line-same store later letter s (lineAt store letter))
 
 -- one line is shown anew, and the others are as they were
 pub put-shown : (store later : List ℕ) (letter : ℕ) (line : Line) → lineAt later letter ≡ line → ((other : ℕ) → (other ≡ letter → ⊥) → linesOf later other ≡ linesOf store other)
@@ -43,15 +48,19 @@ put-shown store later letter line e same =
     fun-ext (put-all (λ other shown. linesOf later other ≡ shown) (linesOf store) letter (lineOf later letter line) (rw e) (λ other f. same other (eqb-false other letter f)))
 
 -- a line kept
+pub line-aside : (store : List ℕ) (letter : ℕ) (line : Line) → covered letter ≡ true → length store ≡ size → (other : ℕ) → Same store (withLineOf store letter line) other
+line-aside store letter line c n other = record { slots = slots-same store letter line c n other; totals = totals-same store letter line c n other }
+
 pub lines-put : (store : List ℕ) (letter : ℕ) (line : Line) → covered letter ≡ true → length store ≡ size → Limited letter line → linesOf (withLineOf store letter line) ≡ put (linesOf store) letter (lineOf store letter line)
 lines-put store letter line c n l =
     let later : List ℕ = withLineOf store letter line in
-    put-shown store later letter line (line-here store letter line c n l) (λ other differ. shown-same store later other (lines-beside store letter line c n other differ) (slots-same store letter line c n other))
-    ∙ ap (put (linesOf store) letter) (line-same store later letter (slots-same store letter line c n letter) line)
+    let same : (other : ℕ) → Same store later other = line-aside store letter line c n in
+    put-shown store later letter line (line-here store letter line c n l) (λ other differ. shown-same store later other (lines-beside store letter line c n other differ) (same other))
+    ∙ ap (put (linesOf store) letter) (line-same store later letter (same letter) line)
 
 -- a hint kept
 pub hint-unseen : (store : List ℕ) (year factor : ℕ) → isYear year ≡ true → length store ≡ size → linesOf (withHintOf store year factor) ≡ linesOf store
-hint-unseen store year factor y n = fun-ext (λ letter. shown-same store (withHintOf store year factor) letter (hint.lines-same store year factor y n letter) (hint.slots-same store year factor y n letter))
+hint-unseen store year factor y n = fun-ext (λ letter. shown-same store (withHintOf store year factor) letter (hint.lines-same store year factor y n letter) (record { slots = hint.slots-same store year factor y n letter; totals = hint.totals-same store year factor y n letter }))
 
 -- is the line declared?
 declared-by : (t : Bool) (n : ℕ) → given (if t then some n else none) ≡ t

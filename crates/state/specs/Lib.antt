@@ -3,4 +3,5 @@ pub mod Lines
 pub mod Patterns
 pub mod Rates
 pub mod Store
+pub mod Totals
 pub mod View

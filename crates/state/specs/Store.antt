@@ -12,13 +12,16 @@ piece store at n = take n (drop at store)
 unfoldable pub written : List ℕ → ℕ → List ℕ → List ℕ
 written store at cells = take at store ++ (cells ++ drop (at + length cells) store)
 
--- where the regions start: fifteen lines of six cells from 0 on, ten slots of eleven cells for each, 113 hints
+-- where the regions start: fifteen lines of six cells from 0 on, ten slots of eleven cells for each, 113 hints, three cells of totals for each line
 abbrev pub slotsStart : ℕ
 slotsStart = 90
 
 abbrev pub hintsStart : ℕ
 hintsStart = 1740
 
+abbrev pub totalsStart : ℕ
+totalsStart = 1853
+
 -- how many cells there are
 abbrev pub size : ℕ
-size = 1853
+size = 1898

@@ -9,10 +9,15 @@ use Rattle.model.specs.Kind.{isYear}
 use Rattle.model.specs.Book as model
 use Rattle.state.specs.declared.book.Book.{Book}
 use Rattle.line_limits.specs.declared.line.Line.{Line}
+use Rattle.line_limits.specs.declared.totals.Totals.{Totals}
 use Rattle.state.specs.Store.{size}
 use Rattle.state.specs.Rates.{ratesOf}
 use Rattle.state.specs.Lines.{lineAt}
 use Rattle.state.specs.Patterns.{keptBack}
+use Rattle.state.specs.Totals.{totalsAt}
+
+abbrev pub totalsOf : Totals → model.Totals
+totalsOf totals = record { years = totals .years; paid = totals .paid; losses = totals .losses }
 
 unfoldable pub lineOf : List ℕ → ℕ → Line → model.Line
 lineOf store letter line =
@@ -20,6 +25,7 @@ lineOf store letter line =
       opening = if line .declared then some (line .opening) else none;
       closed = if isYear (line .closed) then some (record { year = line .closed; closing = line .closing }) else none;
       kept = keptBack store letter (line .kept) (line .last);
+      totals = totalsOf (totalsAt store letter (line .closed));
     }
 
 unfoldable pub linesOf : List ℕ → ℕ → model.Line

@@ -2,6 +2,8 @@
 use crate::store::LINE_CELLS;
 use crate::store::SLOT_CELLS;
 use crate::store::SLOTS_START;
+use crate::store::TOTAL_CELLS;
+use crate::store::TOTALS_START;
 ghost use mathlib.Core.Bool.{true};
 ghost use mathlib.Core.Path.{_≡_};
 ghost use Prim.Native.Nat.{_+_, _≤_, _<_};
@@ -10,6 +12,7 @@ ghost use Rattle.model.specs.Letter.{covered};
 ghost use Rattle.state.specs.Store.{written};
 ghost use Rattle.state.specs.Lines.{placeOf, lineStart};
 ghost use Rattle.state.specs.Patterns.{slotStart};
+ghost use Rattle.state.specs.Totals.{totalStart};
 
 // The place of its line: A to L, then R to T.
 fn place_of(letter: u8) -> usize
@@ -36,6 +39,14 @@ pub fn slot_start(letter: u8, year: u64) -> usize
     ensures { λ r. ⌜ (r ≡ slotStart letter year) × (r ≤ 1729) ⌝ }
 {
     SLOTS_START + (place_of(letter) * 10 + (year % 10) as usize) * SLOT_CELLS
+}
+
+// Where its totals start.
+pub fn total_start(letter: u8) -> usize
+    requires { ⌜ covered letter ≡ true ⌝ }
+    ensures { λ r. ⌜ (r ≡ totalStart letter) × (r ≤ 1895) ⌝ }
+{
+    TOTALS_START + place_of(letter) * TOTAL_CELLS
 }
 
 // The store with cells written from a place on.

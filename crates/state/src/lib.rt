@@ -4,3 +4,4 @@ mod cells;
 pub mod lines;
 pub mod patterns;
 pub mod store;
+pub mod totals;

@@ -22,6 +22,7 @@ pub fn show(line: &[u8]) {
         Asked::SetRate => set_rate(&sizes),
         Asked::AddPattern => add_pattern(letter, &minus, &sizes),
         Asked::CloseYear => close_year(letter, &minus, &sizes),
+        Asked::Totals => word(b"SUM", letter),
     }
     text(b"\n");
 }

@@ -5,6 +5,7 @@ use super::line_names::described;
 use super::pattern_sheet::PatternSheet;
 use super::report::{labelled, paragraph, Block};
 use super::shown::{capitalized, percent, thousands};
+use super::totals_sheet::TotalsSheet;
 use super::year_sheet::YearSheet;
 use crate::answer::Answer;
 use crate::book::Book;
@@ -31,6 +32,7 @@ impl Accepted<'_> {
             } => rate_blocks(*year, monthly_rates),
             Request::Pattern { letter, year, rows } => self.pattern_blocks(*letter, *year, rows),
             Request::Year { letter, year, rows } => self.year_blocks(*letter, *year, rows),
+            Request::Sum { letter } => self.sum_blocks(*letter),
         }
     }
 
@@ -62,6 +64,22 @@ impl Accepted<'_> {
             line,
             year_end: *year_end,
             opening_from: self.opening_from(letter, year),
+        };
+        sheet.blocks()
+    }
+
+    fn sum_blocks(&self, letter: Letter) -> Vec<Block> {
+        let Some(line) = self.book.lines.get(&letter) else {
+            return Vec::new();
+        };
+        let closing_from = |year| self.earlier.line_of(Subject::of_year(letter, year));
+        let sheet = TotalsSheet {
+            letter,
+            line,
+            opening_from: self.earlier.line_of(Subject::of_line(letter)),
+            closing_from: line
+                .last_closed_year()
+                .map_or_else(String::new, closing_from),
         };
         sheet.blocks()
     }

@@ -53,7 +53,7 @@ impl Subject {
         };
         let year = |place: usize| words.get(place).and_then(|word| word.parse().ok());
         Some(match word {
-            "LINE" => Subject::new(word, letter(), None),
+            "LINE" | "SUM" => Subject::new(word, letter(), None),
             "RATE" => Subject::new(word, None, year(1)),
             _ => Subject::new(word, letter(), year(2)),
         })

@@ -1,9 +1,9 @@
 //! What each answer of a run means, told to a person.
 //!
 //! The records go through the book one by one, and each gets its part of the
-//! `report`: `accepted` says what an answer means, with the sheets of a PATT
-//! and a YEAR (`pattern_sheet`, `year_sheet`); `refusal` says which question
-//! was answered no and where, with a file for each group of questions.
+//! `report`: `accepted` says what an answer means, with the sheets of a PATT, a
+//! YEAR and a SUM (`pattern_sheet`, `year_sheet`, `totals_sheet`); `refusal` says
+//! which question was answered no and where, with a file for each group of them.
 //! `earlier_records` knows the lines before. `text` and `page` write the report.
 //!
 //! A new record is explained in `accepted` and named in `record_names`; a new
@@ -25,6 +25,7 @@ mod refused_turn;
 pub mod report;
 mod shown;
 pub mod text;
+mod totals_sheet;
 mod year_sheet;
 
 use accepted::Accepted;

@@ -5,7 +5,7 @@ use crate::rate::MONTHS;
 use crate::record::{line_numbers, pattern_numbers, rate_numbers, year_numbers};
 
 /// The words that a record begins with.
-pub const WORDS: [&str; 4] = ["LINE", "RATE", "PATT", "YEAR"];
+pub const WORDS: [&str; 5] = ["LINE", "RATE", "PATT", "YEAR", "SUM"];
 
 /// A field that holds a number. Places are counted from 1.
 pub struct NumberField {
@@ -32,6 +32,12 @@ pub fn number_fields(word: &[u8], second_field: &[u8]) -> Vec<NumberField> {
         (b"YEAR", Some(letter)) => from_place(3, year_names(letter), year_numbers(letter)),
         _ => Vec::new(),
     }
+}
+
+/// How many fields such a record has. A SUM has no numbers: its letter is last.
+pub fn count_of_fields(word: &[u8], second_field: &[u8]) -> usize {
+    let numbers = number_fields(word, second_field);
+    numbers.last().map_or(2, |last| last.place)
 }
 
 fn from_place(first: usize, names: Vec<String>, kinds: Vec<NumberKind>) -> Vec<NumberField> {

@@ -2,9 +2,9 @@
 
 use super::earlier_records::Subject;
 use super::line_names::kind_name;
-use super::record_names::{number_fields, NumberField, WORDS};
+use super::record_names::{count_of_fields, number_fields, NumberField, WORDS};
 use super::refusal::{Fault, Refused};
-use super::shown::{counted, quoted, thousands};
+use super::shown::{counted, quoted, thousands, WINDOWS_LINE_ENDS};
 use crate::kinds::{Letter, TEN_YEAR_LETTERS, TWO_YEAR_LETTERS};
 use crate::record::LONGEST_LINE;
 
@@ -21,7 +21,7 @@ pub fn line_length(refused: &Refused) -> Fault {
         thousands(line.len()),
         thousands(LONGEST_LINE)
     );
-    let words = line.windows(4).filter(|part| is_word(part)).count();
+    let words: usize = WORDS.iter().map(|word| times_in(line, word)).sum();
     let inner_return = line[..line.len().saturating_sub(1)].contains(&b'\r');
     let empty = empty_at_end(&refused.fields);
     let hints = [
@@ -38,8 +38,16 @@ pub fn line_length(refused: &Refused) -> Fault {
     Fault::at(place, hints.into_iter().flatten().collect())
 }
 
-fn is_word(bytes: &[u8]) -> bool {
-    WORDS.iter().any(|word| word.as_bytes() == bytes)
+/// How often a word stands in a line.
+fn times_in(line: &[u8], word: &str) -> usize {
+    let parts = line.windows(word.len());
+    parts.filter(|part| *part == word.as_bytes()).count()
+}
+
+/// Where a word first stands in a field.
+fn place_in(field: &[u8], word: &str) -> Option<usize> {
+    let mut parts = field.windows(word.len());
+    parts.position(|part| part == word.as_bytes())
 }
 
 /// How many fields at the end are empty, or hold a carriage return alone.
@@ -76,12 +84,10 @@ fn hints_of_encoding(line: &[u8]) -> Vec<String> {
 /// The word can be made out in the first field, or in what stands before a
 /// separator that is no tab.
 fn hints_of_word(field: &[u8], word: &str) -> Vec<String> {
-    let at = field.windows(4).position(|part| part == word.as_bytes());
-    let small = field.to_ascii_uppercase();
-    let small_at = small.windows(4).position(|part| part == word.as_bytes());
-    let place = at.or(small_at);
+    let at = place_in(field, word);
+    let place = at.or_else(|| place_in(&field.to_ascii_uppercase(), word));
     let before = &field[..place.unwrap_or(0)];
-    let after = &field[place.map_or(0, |place| place + 4)..];
+    let after = &field[place.map_or(0, |place| place + word.len())..];
     let rest = after.trim_ascii();
     let parted_by = |byte: u8| place.is_some() && after.starts_with(&[byte]) && !rest.is_empty();
     let hints = [
@@ -136,10 +142,17 @@ pub fn covered_letter(refused: &Refused) -> Fault {
     let covered = Letter::covered(&cleaned).map(Letter::character);
     let capital = |letter: char| format!("write the capital letter alone: {letter}");
     let number = !field.is_empty() && field.iter().all(u8::is_ascii_digit);
+    let is_sum = refused.word() == b"SUM";
+    let ends_in_return = refused.fields.len() == 2 && field.ends_with(b"\r");
     let hints = [
         hint(field.is_empty(), "the field is empty"),
-        covered.map(capital),
-        hint(number, "a number: the letter stands before the year"),
+        hint(ends_in_return, WINDOWS_LINE_ENDS),
+        covered.filter(|_| !ends_in_return).map(capital),
+        hint(
+            number && !is_sum,
+            "a number: the letter stands before the year",
+        ),
+        hint(number && is_sum, "a number: a SUM has the letter of a line"),
         hint(covered.is_none(), covered_letters()),
     ];
     Fault::at(place, hints.into_iter().flatten().collect())
@@ -161,7 +174,7 @@ fn covered_letters() -> String {
 pub fn field_count(refused: &Refused) -> Fault {
     let found = refused.fields.len();
     let numbers = number_fields(refused.word(), refused.second_field());
-    let expected = numbers.last().map_or(0, |last| last.place);
+    let expected = count_of_fields(refused.word(), refused.second_field());
     let place = format!(
         "there are {}, and {} has {expected}",
         counted(found, "field"),
@@ -177,7 +190,7 @@ pub fn field_count(refused: &Refused) -> Fault {
 fn record_name(refused: &Refused) -> String {
     let word = String::from_utf8_lossy(refused.word());
     match Letter::covered(refused.second_field()) {
-        Some(letter) if word != "LINE" => {
+        Some(letter) if word == "PATT" || word == "YEAR" => {
             format!("a {word} of a {} line", kind_name(letter.kind()))
         }
         _ => format!("a {word}"),
@@ -214,16 +227,28 @@ fn hints_of_count(refused: &Refused, expected: usize) -> Vec<String> {
             "it is the count of the other kind of line",
         ),
         hint(blank, "blanks stand in a field: a tab parts two fields"),
+        hint_of_sum(refused),
     ];
     hints.into_iter().flatten().collect()
+}
+
+/// What stands after the letter of a SUM.
+fn hint_of_sum(refused: &Refused) -> Option<String> {
+    let (b"SUM", [_, _, after @ ..]) = (refused.word(), &refused.fields[..]) else {
+        return None;
+    };
+    let is_number = |field: &&[u8]| !field.is_empty() && field.iter().all(u8::is_ascii_digit);
+    let words = match after {
+        [_, _, _] => "it is an answer of the book and no record",
+        [year] if is_number(year) => "a SUM has no year: it is of all closed years of the line",
+        _ => return None,
+    };
+    Some(words.to_string())
 }
 
 /// Has the same word so many fields with the letter of another kind of line?
 fn is_count_of_other_kind(refused: &Refused) -> bool {
     let letters = Letter::all().into_iter().map(Letter::character);
-    let mut counts = letters.map(|letter| {
-        let numbers = number_fields(refused.word(), &[letter as u8]);
-        numbers.last().map_or(0, |last| last.place)
-    });
+    let mut counts = letters.map(|letter| count_of_fields(refused.word(), &[letter as u8]));
     counts.any(|count| count == refused.fields.len())
 }

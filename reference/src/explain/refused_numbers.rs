@@ -2,7 +2,7 @@
 
 use super::record_names::{number_fields, NumberField};
 use super::refusal::{Fault, Refused};
-use super::shown::{quoted, thousands};
+use super::shown::{quoted, thousands, WINDOWS_LINE_ENDS};
 use crate::kinds::NumberKind;
 use crate::record::{value, well_written};
 
@@ -29,10 +29,10 @@ pub fn badly_written(refused: &Refused) -> Fault {
         format!("{}: {}: {faults}", number.described(), quoted(field))
     };
     let windows = wrong.iter().any(|(_, field)| field.ends_with(b"\r"));
-    let hint = "the file has Windows line ends: save it with Unix line ends".to_string();
+    let hint = || WINDOWS_LINE_ENDS.to_string();
     Fault {
         places: wrong.iter().map(place).collect(),
-        hints: Vec::from_iter(windows.then_some(hint)),
+        hints: Vec::from_iter(windows.then(hint)),
     }
 }
 

@@ -39,6 +39,18 @@ pub fn capitalized(text: &str) -> String {
     first.into_iter().chain(characters).collect()
 }
 
+/// A number that is taken away from another: in brackets if it is below 0.
+pub fn taken_away(number: i128) -> String {
+    if number < 0 {
+        format!("({})", thousands(number))
+    } else {
+        thousands(number)
+    }
+}
+
+/// The hint at a carriage return at the end of a record.
+pub const WINDOWS_LINE_ENDS: &str = "the file has Windows line ends: save it with Unix line ends";
+
 /// What stands for a byte: itself, if it is printable ASCII.
 fn escaped_byte(byte: u8) -> String {
     match byte {

@@ -9,6 +9,7 @@ mod patterns;
 mod questions;
 mod rates;
 mod tails;
+mod totals;
 mod years;
 
 use crate::input_text::{ended_lines, line};
@@ -31,6 +32,7 @@ pub fn edges() -> Vec<Edge> {
     edges.extend(questions::edges());
     edges.extend(halves::edges());
     edges.extend(tails::edges());
+    edges.extend(totals::edges());
     edges.push(edge("LINE T 7", "LINE T 7"));
     edges
 }

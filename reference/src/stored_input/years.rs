@@ -32,6 +32,7 @@ pub fn input() -> Vec<u8> {
         }
     }
     records.push(format!("YEAR S 2019 {}", repeated("0", 9)));
+    records.extend(["SUM D", "SUM S"].map(String::from));
     ended_records(records)
 }
 

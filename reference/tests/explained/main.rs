@@ -1,6 +1,6 @@
-//! What `explain` says of whole runs (`runs`), of accepted records (`figures`)
-//! and of refused ones (`refused_form`, `refused_book`), and its `page` and
-//! `program`.
+//! What `explain` says of whole runs (`runs`), of accepted records (`figures`),
+//! of refused ones (`refused_form`, `refused_book`) and of SUM (`sums`), and its
+//! `page` and `program`.
 
 #[path = "../common/mod.rs"]
 mod common;
@@ -10,6 +10,7 @@ mod program;
 mod refused_book;
 mod refused_form;
 mod runs;
+mod sums;
 
 use common::line;
 use reference::explain::explain;

@@ -57,6 +57,22 @@ pub fn tax(output: &mut Vec<u8>, letter: Letter, year: u64, tax: &Tax) {
     output.push(b'\n');
 }
 
+/// A line's closed years, all their paid and all their losses.
+#[derive(Clone, Copy)]
+pub struct Totals {
+    pub closed_years: u64,
+    pub paid: i64,
+    pub losses: i64,
+}
+
+pub fn sum(output: &mut Vec<u8>, letter: Letter, totals: &Totals) {
+    output.extend_from_slice(&[b'S', b'U', b'M', b'\t', letter.byte()]);
+    put_number(output, totals.closed_years);
+    put_signed(output, totals.paid);
+    put_signed(output, totals.losses);
+    output.push(b'\n');
+}
+
 pub fn no(output: &mut Vec<u8>, question: u8) {
     output.extend_from_slice(b"NO");
     put_number(output, u64::from(question));

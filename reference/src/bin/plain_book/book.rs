@@ -1,6 +1,6 @@
 //! The book's state, and questions 7 to 13.
 
-use crate::answer::{self, Tax};
+use crate::answer::{self, Tax, Totals};
 use crate::factor::{publish, Cumulative, Discount};
 use crate::letter::Letter;
 use crate::reader::{Reader, Word, AMOUNT, OPENING, RATE, YEAR};
@@ -17,6 +17,7 @@ struct Line {
     first_pattern: u64,
     last_pattern: u64,
     last_closed: u64,
+    totals: Totals,
     /// The pattern of an accident year stands at the year's last digit.
     patterns: [Published; 10],
 }
@@ -27,6 +28,11 @@ const UNDECLARED: Line = Line {
     first_pattern: 0,
     last_pattern: 0,
     last_closed: 0,
+    totals: Totals {
+        closed_years: 0,
+        paid: 0,
+        losses: 0,
+    },
     patterns: [[0; 11]; 10],
 };
 
@@ -55,6 +61,7 @@ impl Book {
             Word::Rate => self.give_rate(reader, output),
             Word::Pattern => self.give_pattern(reader, output),
             Word::Year => self.close_year(reader, output),
+            Word::Sum => self.sum(reader, output),
         }
     }
 
@@ -118,6 +125,14 @@ impl Book {
         answer::tax(output, letter, year, &tax);
         Ok(())
     }
+
+    fn sum(&mut self, reader: &mut Reader, output: &mut Vec<u8>) -> Result<(), u8> {
+        let letter = reader.letter()?;
+        reader.end_record()?;
+        let line = self.lines[letter.place()].if_declared()?;
+        answer::sum(output, letter, &line.totals);
+        Ok(())
+    }
 }
 
 impl Line {
@@ -161,6 +176,9 @@ impl Line {
         self.opening = closing;
         self.last_closed = year;
         let loss = paid + closing as i64 - opening as i64;
+        self.totals.closed_years += 1;
+        self.totals.paid += paid;
+        self.totals.losses += loss;
         Ok(Tax {
             paid,
             opening,

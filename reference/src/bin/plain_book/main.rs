@@ -1,4 +1,4 @@
-//! The book's program of document 01 once more, written for speed: the
+//! The program of documents 01 and 02 once more, written for speed: the
 //! comparator of the speed comparison. It shares no code with the library.
 //!
 //! The input is read into memory at once, every byte of a record is looked at

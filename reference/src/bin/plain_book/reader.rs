@@ -26,12 +26,13 @@ const fn limits(lowest: u64, highest: u64) -> Limits {
     Limits { lowest, highest }
 }
 
-/// The four kinds of record.
+/// The five kinds of record.
 pub enum Word {
     Line,
     Rate,
     Pattern,
     Year,
+    Sum,
 }
 
 /// What is left of the input. An error is the number of the question that was
@@ -88,6 +89,7 @@ impl<'a> Reader<'a> {
             [b'R', b'A', b'T', b'E', after @ ..] => (Word::Rate, after),
             [b'P', b'A', b'T', b'T', after @ ..] => (Word::Pattern, after),
             [b'Y', b'E', b'A', b'R', after @ ..] => (Word::Year, after),
+            [b'S', b'U', b'M', after @ ..] => (Word::Sum, after),
             _ => return Err(2),
         };
         self.rest = after;

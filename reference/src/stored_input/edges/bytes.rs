@@ -55,7 +55,7 @@ fn of_byte(byte: u8) -> Vec<Edge> {
 }
 
 /// A line filled to 1,023 and 1,024 bytes gets its number, at 1,025 a 1.
-fn about_the_longest(start: &str, filler: u8, number: &str) -> Vec<Edge> {
+pub fn about_the_longest(start: &str, filler: u8, number: &str) -> Vec<Edge> {
     let lengths = [
         (1_023, number),
         (1_024, number),

@@ -2,7 +2,7 @@
 use native.Mathlib.Omega.{arith}
 use borrow.Author.Needs.{needs}
 use mir.Facts.{toZ-ofZ}
-use Rattle.answer.proofs.Lines.{room, without-room, declared-answered, rated-answered, fact-answered, tax-answered, refusal-answered}
+use Rattle.answer.proofs.Lines.{room, without-room, declared-answered, rated-answered, fact-answered, tax-answered, summed-answered, refusal-answered}
 use Rattle.answer.proofs.text.put_answer.Statement.{statement}
 use Rattle.answer.proofs.text.put_answer.Tie as tie
 
@@ -35,6 +35,12 @@ put-tax-requires c κs = search room
 
 enum-known-answer-5 : tie.Need-enum-known-answer-5
 enum-known-answer-5 c = search needs
+
+put-summed-requires : tie.Need-put-summed-requires
+put-summed-requires c κs = search room
+
+enum-known-answer-6 : tie.Need-enum-known-answer-6
+enum-known-answer-6 c = search needs
 
 number-requires : tie.Need-number-requires
 number-requires c κs = search needs
@@ -70,13 +76,19 @@ same-length-5 : tie.Need-same-length-5
 same-length-5 c = omega arith
 
 returns-5 : tie.Need-returns-5
-returns-5 c = search refusal-answered
+returns-5 c = search (summed-answered, toZ-ofZ)
 
 same-length-6 : tie.Need-same-length-6
 same-length-6 c = omega arith
 
 returns-6 : tie.Need-returns-6
-returns-6 c = search without-room
+returns-6 c = search refusal-answered
+
+same-length-7 : tie.Need-same-length-7
+same-length-7 c = omega arith
+
+returns-7 : tie.Need-returns-7
+returns-7 c = search without-room
 
 pub put-answer-spec : {M : Type 1} → statement M
 put-answer-spec =
@@ -92,6 +104,8 @@ put-answer-spec =
     enum-known-answer-4
     put-tax-requires
     enum-known-answer-5
+    put-summed-requires
+    enum-known-answer-6
     number-requires
     put-refusal-requires
     same-length
@@ -105,4 +119,6 @@ put-answer-spec =
     same-length-5
     returns-5
     same-length-6
-    returns-6)
+    returns-6
+    same-length-7
+    returns-7)

@@ -19,6 +19,9 @@ enum-told-4 c = search needs
 enum-told-5 : tie.Need-enum-told-5
 enum-told-5 c = search needs
 
+enum-told-6 : tie.Need-enum-told-6
+enum-told-6 c = search needs
+
 returns : tie.Need-returns
 returns c = search needs
 
@@ -34,6 +37,9 @@ returns-4 c = search minus-year
 returns-5 : tie.Need-returns-5
 returns-5 c = search needs
 
+returns-6 : tie.Need-returns-6
+returns-6 c = search needs
+
 pub allows-minus-spec : {M : Type 1} → statement M
 allows-minus-spec =
     tie.close
@@ -43,8 +49,10 @@ allows-minus-spec =
     enum-told-3
     enum-told-4
     enum-told-5
+    enum-told-6
     returns
     returns-2
     returns-3
     returns-4
-    returns-5)
+    returns-5
+    returns-6)

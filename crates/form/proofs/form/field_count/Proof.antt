@@ -31,6 +31,9 @@ returns-2 c = search year-ten
 enum-told-5 : tie.Need-enum-told-5
 enum-told-5 c = search needs
 
+enum-told-6 : tie.Need-enum-told-6
+enum-told-6 c = search needs
+
 returns-3 : tie.Need-returns-3
 returns-3 c = search needs
 
@@ -46,6 +49,9 @@ returns-6 c = search year-two
 returns-7 : tie.Need-returns-7
 returns-7 c = search needs
 
+returns-8 : tie.Need-returns-8
+returns-8 c = search needs
+
 pub field-count-spec : {M : Type 1} → statement M
 field-count-spec =
     tie.close
@@ -59,8 +65,10 @@ field-count-spec =
     is-ten-year-requires-2
     returns-2
     enum-told-5
+    enum-told-6
     returns-3
     returns-4
     returns-5
     returns-6
-    returns-7)
+    returns-7
+    returns-8)

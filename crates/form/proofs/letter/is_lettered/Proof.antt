@@ -1,6 +1,6 @@
 -- `form::letter::is_lettered` meets its contract. Assumes nothing.
 use borrow.Author.Needs.{needs}
-use Rattle.form.proofs.Forms.{line-letter, patt-letter, year-letter}
+use Rattle.form.proofs.Forms.{line-letter, patt-letter, year-letter, sum-letter}
 use Rattle.form.proofs.letter.is_lettered.Statement.{statement}
 use Rattle.form.proofs.letter.is_lettered.Tie as tie
 
@@ -28,6 +28,12 @@ is-covered-requires-3 c κs = search needs
 enum-told-5 : tie.Need-enum-told-5
 enum-told-5 c = search needs
 
+is-covered-requires-4 : tie.Need-is-covered-requires-4
+is-covered-requires-4 c κs = search needs
+
+enum-told-6 : tie.Need-enum-told-6
+enum-told-6 c = search needs
+
 returns : tie.Need-returns
 returns c = search line-letter
 
@@ -41,7 +47,10 @@ returns-4 : tie.Need-returns-4
 returns-4 c = search year-letter
 
 returns-5 : tie.Need-returns-5
-returns-5 c = search needs
+returns-5 c = search sum-letter
+
+returns-6 : tie.Need-returns-6
+returns-6 c = search needs
 
 pub is-lettered-spec : {M : Type 1} → statement M
 is-lettered-spec =
@@ -55,8 +64,11 @@ is-lettered-spec =
     enum-told-4
     is-covered-requires-3
     enum-told-5
+    is-covered-requires-4
+    enum-told-6
     returns
     returns-2
     returns-3
     returns-4
-    returns-5)
+    returns-5
+    returns-6)

@@ -1,6 +1,6 @@
 -- `form::word::word_of` meets its contract. Assumes nothing.
 use borrow.Author.Needs.{needs}
-use Rattle.form.proofs.Words.{is-line, is-rate, is-patt, is-year, is-other}
+use Rattle.form.proofs.Words.{is-line, is-rate, is-patt, is-year, is-sum, is-other}
 use Rattle.form.proofs.word.word_of.Statement.{statement}
 use Rattle.form.proofs.word.word_of.Tie as tie
 
@@ -40,8 +40,17 @@ is-same-requires-4 c κs = search needs
 returns-4 : tie.Need-returns-4
 returns-4 c = search is-year
 
+slice-aggregate-is-same-5 : tie.Need-slice-aggregate-is-same-5
+slice-aggregate-is-same-5 c = search needs
+
+is-same-requires-5 : tie.Need-is-same-requires-5
+is-same-requires-5 c κs = search needs
+
 returns-5 : tie.Need-returns-5
-returns-5 c = search is-other
+returns-5 c = search is-sum
+
+returns-6 : tie.Need-returns-6
+returns-6 c = search is-other
 
 pub word-of-spec : {M : Type 1} → statement M
 word-of-spec =
@@ -59,4 +68,7 @@ word-of-spec =
     slice-aggregate-is-same-4
     is-same-requires-4
     returns-4
-    returns-5)
+    slice-aggregate-is-same-5
+    is-same-requires-5
+    returns-5
+    returns-6)

@@ -1,6 +1,6 @@
 -- `journal::apply::apply` meets its contract. Assumes nothing.
 use borrow.Author.Needs.{needs}
-use Rattle.journal.proofs.LineRead.{months-in, closes-low, refuses, declares, sets-rate, adds-pattern, closes-year}
+use Rattle.journal.proofs.LineRead.{months-in, closes-low, refuses, sums, declares, sets-rate, adds-pattern, closes-year}
 use Rattle.journal.proofs.apply.apply.Statement.{statement}
 use Rattle.journal.proofs.apply.apply.Tie as tie
 
@@ -52,6 +52,12 @@ enum-told-4 c = search needs
 apply-year-requires : tie.Need-apply-year-requires
 apply-year-requires c κs = search closes-low
 
+enum-told-5 : tie.Need-enum-told-5
+enum-told-5 c = search needs
+
+totals-requires : tie.Need-totals-requires
+totals-requires c κs = search needs
+
 returns : tie.Need-returns
 returns c = search refuses
 
@@ -66,6 +72,9 @@ returns-4 c = search adds-pattern
 
 returns-5 : tie.Need-returns-5
 returns-5 c = search closes-year
+
+returns-6 : tie.Need-returns-6
+returns-6 c = search sums
 
 pub apply-spec : {M : Type 1} → statement M
 apply-spec =
@@ -87,8 +96,11 @@ apply-spec =
     apply-pattern-requires
     enum-told-4
     apply-year-requires
+    enum-told-5
+    totals-requires
     returns
     returns-2
     returns-3
     returns-4
-    returns-5)
+    returns-5
+    returns-6)

@@ -19,6 +19,9 @@ enum-told-4 c = search needs
 enum-told-5 : tie.Need-enum-told-5
 enum-told-5 c = search needs
 
+enum-told-6 : tie.Need-enum-told-6
+enum-told-6 c = search needs
+
 returns : tie.Need-returns
 returns c = search needs
 
@@ -32,7 +35,10 @@ returns-4 : tie.Need-returns-4
 returns-4 c = search needs
 
 returns-5 : tie.Need-returns-5
-returns-5 c = search other-asks
+returns-5 c = search needs
+
+returns-6 : tie.Need-returns-6
+returns-6 c = search other-asks
 
 pub asked-of-spec : {M : Type 1} → statement M
 asked-of-spec =
@@ -43,8 +49,10 @@ asked-of-spec =
     enum-told-3
     enum-told-4
     enum-told-5
+    enum-told-6
     returns
     returns-2
     returns-3
     returns-4
-    returns-5)
+    returns-5
+    returns-6)

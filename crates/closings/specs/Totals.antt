@@ -1,0 +1,14 @@
+-- What a year adds to a line's totals, and totals that it can be added to: within the limits of the last year of all.
+-- Assumes nothing: these are definitions.
+use Prim.Native.Nat.{_≤_}
+use lib.IntN.{ℤ, natAbs}
+use Rattle.line_limits.specs.declared.totals.Totals.{Totals}
+use Rattle.line_limits.specs.Totals.{Within}
+
+pub record OfAYear (paid loss : ℤ) : Type 0 where
+  pub paid-limit : natAbs paid ≤ 220000000000
+  pub loss-limit : natAbs loss ≤ 220000000000
+
+pub record Growing (before : Totals) (paid loss : ℤ) : Type 0 where
+  pub within : Within 2099 before
+  pub year : OfAYear paid loss

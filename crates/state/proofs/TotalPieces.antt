@@ -1,0 +1,104 @@
+-- Totals written: they are read back, those of every other letter are as they were, and so are the lines and the slots.
+-- Assumes nothing.
+use mathlib.Core.Bool.{Bool, true, false}
+use mathlib.Core.List.{List, [], _∷_}
+use mathlib.Core.Logic.{⊎-elim}
+use mathlib.Core.Path.{_≡_, refl, _∙_}
+use Prim.Native.Nat.{ℕ, _+_, _*_, _≤_, _<_}
+use native.Mathlib.Omega.{arith}
+use lib.ListN.{length, getD}
+use Rattle.model.specs.Letter.{covered}
+use Rattle.line_limits.specs.declared.totals.Totals.{Totals}
+use Rattle.line_limits.specs.Totals.{totalsIn, totalCells}
+use Rattle.state.specs.Store.{piece, written, totalsStart, size}
+use Rattle.state.specs.Lines.{placeOf, lineStart, lineAt}
+use Rattle.state.specs.Patterns.{slotStart, slotAt}
+use Rattle.state.specs.Totals.{totalStart, totalCellsAt, totalsAt, withTotalsOf}
+use Rattle.state.proofs.Places.{covered-place, places-differ}
+use Rattle.state.proofs.Pieces as pieces
+use Rattle.state.proofs.Pieces.{first-or-later}
+
+-- cells written before the totals leave them as they were
+module _ (store cells : List ℕ) (at : ℕ) (room : at + length cells ≤ length store) (first : at + length cells ≤ totalsStart) where
+  past-by : (letter : ℕ) (t : Bool) → covered letter ≡ t → totalCellsAt (written store at cells) letter ≡ totalCellsAt store letter
+  unfolding totalCellsAt
+  past-by letter true c = rw (c, pieces.after store cells at room (totalStart letter) 3 (omega (arith, first)))
+  past-by letter false c = rw c
+
+  pub totals-past : (letter : ℕ) → totalCellsAt (written store at cells) letter ≡ totalCellsAt store letter
+  totals-past letter = past-by letter (covered letter) refl
+
+-- as code reads them: three cells
+module _ (store : List ℕ) (letter closed : ℕ) (t : Bool) (et : t ≡ covered letter) where
+  pub totals-read : t ≡ true → (at : ℕ) → at ≡ totalStart letter → (totals : Totals) → totals ≡ totalsIn closed (getD store at 0 ∷ getD store (at + 1) 0 ∷ getD store (at + 2) 0 ∷ []) → totals ≡ totalsAt store letter closed
+  unfolding totalCellsAt totalsIn
+  totals-read c at ea totals er =
+      let cell : (j : ℕ) → j < 3 → getD (piece store (totalStart letter) 3) j 0 ≡ getD store (totalStart letter + j) 0 = pieces.cell store (totalStart letter) 3 in
+      let first : totalStart letter + 0 ≡ totalStart letter = omega arith in
+      rw (er, ← et, c, cell 0 (omega arith), cell 1 (omega arith), cell 2 (omega arith), first, ← ea)
+
+  pub no-totals-read : t ≡ false → (totals : Totals) → totals ≡ totalsIn closed (0 ∷ 0 ∷ 0 ∷ []) → totals ≡ totalsAt store letter closed
+  unfolding totalCellsAt
+  no-totals-read c totals er = rw (er, ← et, c)
+
+-- as code keeps them
+module _ (store : List ℕ) (letter closed : ℕ) (totals : Totals) (t : Bool) (et : t ≡ covered letter) where
+  pub totals-kept : t ≡ true → (cells : List ℕ) → cells ≡ totalCells closed totals → (at : ℕ) → at ≡ totalStart letter → (later : List ℕ) → later ≡ written store at cells → later ≡ withTotalsOf store letter closed totals
+  totals-kept c cells ec at ea later el = rw (← et, c, ← ec, ← ea) el
+
+  pub totals-left : t ≡ false → store ≡ withTotalsOf store letter closed totals
+  totals-left c = rw (← et, c)
+
+module _ (store : List ℕ) (letter closed : ℕ) (totals : Totals) (c : covered letter ≡ true) (n : length store ≡ size) where
+  abbrev cells : List ℕ
+  cells = totalCells closed totals
+
+  abbrev later : List ℕ
+  later = withTotalsOf store letter closed totals
+
+  three : length cells ≡ 3
+  unfolding totalCells
+  three = refl
+
+  room : totalStart letter + length cells ≤ length store
+  room = omega (arith, covered-place letter c, three)
+
+  pub totals-here : totalCellsAt later letter ≡ cells
+  unfolding totalCellsAt
+  totals-here = rw c (pieces.here store cells (totalStart letter) room 3 three)
+
+  apart : (place : ℕ) → (place ≡ placeOf letter → ⊥) → piece later (totalsStart + place * 3) 3 ≡ piece store (totalsStart + place * 3) 3
+  apart place differ =
+      rw c
+      (⊎-elim
+      (λ (lt : place < placeOf letter). pieces.before store cells (totalStart letter) room (totalsStart + place * 3) 3 (omega arith))
+      (λ (gt : placeOf letter < place). pieces.after store cells (totalStart letter) room (totalsStart + place * 3) 3 (omega (arith, three)))
+      (first-or-later place (placeOf letter) differ))
+
+  beside-by : (other : ℕ) → (other ≡ letter → ⊥) → (t : Bool) → covered other ≡ t → totalCellsAt later other ≡ totalCellsAt store other
+  unfolding totalCellsAt
+  beside-by other differ true o = rw (o, apart (placeOf other) (places-differ other letter o c differ))
+  beside-by other differ false o = rw o
+
+  pub totals-beside : (other : ℕ) → (other ≡ letter → ⊥) → totalCellsAt later other ≡ totalCellsAt store other
+  totals-beside other differ = beside-by other differ (covered other) refl
+
+  -- the lines and the slots stand before the totals
+  line-same : (other : ℕ) (t : Bool) → covered other ≡ t → lineAt later other ≡ lineAt store other
+  unfolding lineAt
+  line-same other true o = rw (o, c, pieces.before store cells (totalStart letter) room (lineStart other) 6 (omega (arith, covered-place other o)))
+  line-same other false o = rw o
+
+  pub lines-same : (other : ℕ) → lineAt later other ≡ lineAt store other
+  lines-same other = line-same other (covered other) refl
+
+  slot-same : (other year : ℕ) (t : Bool) → covered other ≡ t → slotAt later other year ≡ slotAt store other year
+  unfolding slotAt
+  slot-same other year true o = rw (o, c, pieces.before store cells (totalStart letter) room (slotStart other year) 11 (omega (arith, covered-place other o)))
+  slot-same other year false o = rw o
+
+  pub slots-same : (other year : ℕ) → slotAt later other year ≡ slotAt store other year
+  slots-same other year = slot-same other year (covered other) refl
+
+  pub totals-long : length later ≡ size
+  totals-long = rw c (pieces.long store cells (totalStart letter) room ∙ n)
