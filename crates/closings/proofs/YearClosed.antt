@@ -29,13 +29,13 @@ use Rattle.state.specs.declared.book.Book.{Book}
 use Rattle.line_limits.specs.declared.line.Line.{Line}
 use Rattle.line_limits.specs.declared.totals.Totals.{Totals}
 use Rattle.line_limits.specs.Totals.{Within, withYearOf}
-use Rattle.line_limits.proofs.TotalLimits.{read-within, year-within}
+use Rattle.line_limits.proofs.TotalLimits.{year-within}
 use Rattle.ledger.specs.declared.answer.Answer.the-variants as answer
 use Rattle.ledger.specs.declared.answer.Outcome.{Outcome}
 use Rattle.state.specs.Store.{size}
 use Rattle.state.specs.Lines.{Limited, withLineOf, withClosingOf}
 use Rattle.closings.specs.Rows.{FactorsOf}
-use Rattle.state.specs.Totals.{totalCellsAt, totalsAt, withTotalsOf}
+use Rattle.state.specs.Totals.{totalsAt, withTotalsOf}
 use Rattle.state.specs.View.{lineOf}
 use Rattle.ledger.specs.Answer.{acceptedOf}
 use Rattle.ledger.specs.Does.{bookSettled, storeSettled, Settled}
@@ -45,6 +45,7 @@ use Rattle.state.proofs.Limited.{opening-small, closing-small, closed-kept, lin
 use Rattle.state.proofs.KeptYears.{kept-year}
 use Rattle.state.proofs.Views.{line-is}
 use Rattle.state.proofs.ClosedYears.{year-put}
+use Rattle.state.proofs.TotalPieces.{totals-within}
 use Rattle.closings.proofs.RowPatterns.{row-factors-are}
 use Rattle.closings.proofs.YearAsked.{due-kept, due-last, due-open, passes}
 
@@ -137,8 +138,8 @@ module _ (store : List ℕ) (line : Line) (letter year : ℕ) (paid : List ℤ) 
       abbrev totals : Totals
       totals = withYearOf (totalsAt store letter (line .closed)) (paidTotal rows) taxLoss
 
-      totals-within : Within year totals
-      totals-within = year-within (line .closed) year is-year later-than (totalsAt store letter (line .closed)) (paidTotal rows) taxLoss (read-within (line .closed) (totalCellsAt store letter)) (of-a-year .paid-limit) (of-a-year .loss-limit)
+      within-year : Within year totals
+      within-year = year-within (line .closed) year is-year later-than (totalsAt store letter (line .closed)) (paidTotal rows) taxLoss (totals-within store letter (line .closed)) (of-a-year .paid-limit) (of-a-year .loss-limit)
 
       pub year-closed : (book : Book) → length store ≡ size → (middle : List ℕ) → middle ≡ withTotalsOf store letter year (withYearOf (totalsAt store letter (line .closed)) p v)
           → (closed : Line) → closed ≡ withClosingOf line year (end .closing) → (later : List ℕ) → later ≡ withLineOf middle letter closed
@@ -147,7 +148,7 @@ module _ (store : List ℕ) (line : Line) (letter year : ℕ) (paid : List ℤ) 
       year-closed book n middle em closed ec later el r er =
           rw (passes store line letter year paid unpaid tabular pre book, er, el, em, ec, ep, ev, ee, eo, end-is)
           record {
-            outcome = rw (year-put store letter year amount line totals (pre .turned .sound .letter) n is-year closed-limited totals-within, line-is store letter line (pre .turned .here), opening-is store letter line (pre .turned .declared));
+            outcome = rw (year-put store letter year amount line totals (pre .turned .sound .letter) n is-year closed-limited within-year, line-is store letter line (pre .turned .here), opening-is store letter line (pre .turned .declared));
             own = refl;
             lent = rw (line-is store letter line (pre .turned .here), opening-is store letter line (pre .turned .declared), ← (pre .turned .here));
           }

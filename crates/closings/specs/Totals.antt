@@ -3,11 +3,11 @@
 use Prim.Native.Nat.{_≤_}
 use lib.IntN.{ℤ, natAbs}
 use Rattle.line_limits.specs.declared.totals.Totals.{Totals}
-use Rattle.line_limits.specs.Totals.{Within}
+use Rattle.line_limits.specs.Totals.{mostAYear, Within}
 
 pub record OfAYear (paid loss : ℤ) : Type 0 where
-  pub paid-limit : natAbs paid ≤ 220000000000
-  pub loss-limit : natAbs loss ≤ 220000000000
+  pub paid-limit : natAbs paid ≤ mostAYear
+  pub loss-limit : natAbs loss ≤ mostAYear
 
 pub record Growing (before : Totals) (paid loss : ℤ) : Type 0 where
   pub within : Within 2099 before

@@ -25,9 +25,8 @@ use Rattle.state.specs.View.{lineOf, view}
 use Rattle.ledger.specs.Answer.{refusedOf, acceptedOf}
 use Rattle.ledger.specs.Does.{bookSettled, storeSettled, Settled, Does}
 use Rattle.ledger.proofs.Settling.{refused, limits-refused}
-use Rattle.line_limits.proofs.TotalLimits.{none-closed}
-use Rattle.state.specs.Totals.{totalCellsAt}
 use Rattle.state.proofs.Limited.{new-limited}
+use Rattle.state.proofs.TotalPieces.{zeros-where-none-closed}
 use Rattle.state.proofs.Views.{lines-put, declared-is}
 
 -- question 7
@@ -45,7 +44,7 @@ module _ (book : Book) (letter opening : ℕ) (sound : Sound (declare letter ope
   declared d n later el er =
       rw (first-is false d, er, el)
       record {
-        outcome = rw (lines-put store letter (newLine opening) (sound .letter) n (new-limited letter opening (leb-true opening 100000000000 (sound .limits))), none-closed (totalCellsAt store letter));
+        outcome = rw (lines-put store letter (newLine opening) (sound .letter) n (new-limited letter opening (leb-true opening 100000000000 (sound .limits))), zeros-where-none-closed store letter);
         own = refl;
         lent = refl;
       }

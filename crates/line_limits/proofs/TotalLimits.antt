@@ -10,11 +10,12 @@ use borrow.Author.Tests.{leb-true, ltb-true}
 use lib.Dec.{leb, ltb}
 use lib.IntN.{ℤ, pos, negsuc, natAbs, _+ℤ_, +ℤ-negℤ-cancel}
 use lib.ListN.{getD}
+use Rattle.model.specs.Book.{noTotals}
 use Rattle.model.specs.Kind.{isYear}
 use Rattle.model.proofs.Lists.{and-left, and-right}
 use Rattle.money.proofs.Signed.{sum-size, less-size}
 use Rattle.line_limits.specs.declared.totals.Totals.{Totals}
-use Rattle.line_limits.specs.Totals.{yearsThrough, totalLimit, totalIn, orZero, totalCell, totalsIn, totalCells, Within, withYearOf}
+use Rattle.line_limits.specs.Totals.{totalsBy, yearsThrough, mostAYear, totalLimit, totalIn, orZero, totalCell, totalsIn, totalCells, Within, withYearOf}
 
 -- a total read from a cell
 total-within : (limit cell : ℕ) → natAbs (totalIn limit cell) ≤ limit
@@ -52,8 +53,12 @@ kept-back closed totals w =
     let years : min (totals .years) (yearsThrough closed) ≡ totals .years = omega (arith, w .years) in
     rw (years, total-back (totalLimit closed) (totals .paid) (w .paid), total-back (totalLimit closed) (totals .losses) (w .losses))
 
+-- no totals at all
+pub none-within : (closed : ℕ) → Within closed (totalsBy noTotals)
+none-within closed = record { years = omega arith; paid = omega arith; losses = omega arith }
+
 -- where none is closed
-pub none-closed : (cells : List ℕ) → totalsIn 0 cells ≡ record { years = 0; paid = pos 0; losses = pos 0 }
+pub none-closed : (cells : List ℕ) → totalsIn 0 cells ≡ totalsBy noTotals
 unfolding totalsIn totalIn totalLimit
 none-closed cells = rw (min-zero (getD cells 0 0), min-zero (getD cells 1 0), min-zero (getD cells 2 0))
 
@@ -69,7 +74,7 @@ pub years-few : (closed : ℕ) → yearsThrough closed ≤ 113
 years-few closed = years-of closed (isYear closed) refl .0
 
 -- every total is far within an i64
-pub limit-small : (closed : ℕ) → totalLimit closed ≤ 24860000000000
+pub limit-small : (closed : ℕ) → totalLimit closed ≤ 113 * mostAYear
 unfolding totalLimit
 limit-small closed = omega (arith, years-few closed)
 
@@ -91,11 +96,11 @@ module _ (closed year : ℕ) (y : isYear year ≡ true) (later : isYear closed �
   more : yearsThrough closed + 1 ≤ yearsThrough year
   more = more-by (isYear closed) refl
 
-  pub more-limit : totalLimit closed + 220000000000 ≤ totalLimit year
+  pub more-limit : totalLimit closed + mostAYear ≤ totalLimit year
   unfolding totalLimit
   more-limit = omega (arith, more)
 
-  pub year-within : (totals : Totals) (paid loss : ℤ) → Within closed totals → natAbs paid ≤ 220000000000 → natAbs loss ≤ 220000000000 → Within year (withYearOf totals paid loss)
+  pub year-within : (totals : Totals) (paid loss : ℤ) → Within closed totals → natAbs paid ≤ mostAYear → natAbs loss ≤ mostAYear → Within year (withYearOf totals paid loss)
   year-within totals paid loss w p l =
       record {
         years = omega (arith, w .years, more);

@@ -17,7 +17,7 @@ use Rattle.model.specs.Kind.{isYear}
 use Rattle.model.proofs.Lists.{and-left, and-right}
 use Rattle.money.proofs.Signed.{sum-size, negative-size, size-fits, read-back}
 use Rattle.line_limits.specs.declared.totals.Totals.{Totals}
-use Rattle.line_limits.specs.Totals.{yearsThrough, totalLimit, totalIn, orZero, totalCell, totalsIn, totalCells}
+use Rattle.line_limits.specs.Totals.{yearsThrough, mostAYear, totalLimit, totalIn, orZero, totalCell, totalsIn, totalCells}
 
 -- the years through a closed one
 module _ (closed : ℕ) (t : Bool) (et : t ≡ isYear closed) where
@@ -36,7 +36,7 @@ module _ (closed : ℕ) (t : Bool) (et : t ≡ isYear closed) where
   no-years y = (rw (← et, y), omega arith)
 
 -- a total from its cell
-module _ (limit cell distance : ℕ) (small : limit ≤ 24860000000000) (e : distance ≡ min cell (2 * limit)) where
+module _ (limit cell distance : ℕ) (small : limit ≤ 113 * mostAYear) (e : distance ≡ min cell (2 * limit)) where
   abbrev total : ℤ
   total = pos distance -ℤ pos limit
 
@@ -57,7 +57,7 @@ module _ (limit cell distance : ℕ) (small : limit ≤ 24860000000000) (e : dis
   total-read = rw (distance-alone, limit-alone, read-back total total-small, e)
 
 -- a total into its cell: it is past the limit, or the distance is below zero, or neither
-module _ (limit : ℕ) (small : limit ≤ 24860000000000) where
+module _ (limit : ℕ) (small : limit ≤ 113 * mostAYear) where
   past : (v : ℤ) → ltZ (pos limit) v ≡ true → 2 * limit ≡ totalCell limit v
   unfolding totalCell
   past (pos n) e = let lt : limit < n = ltb-true limit n e in omega arith
@@ -91,7 +91,7 @@ size-is : (d : ℤ) → ltZ d (pos 0) ≡ false → natAbs d ≡ orZero d
 size-is (pos n) e = refl
 size-is (negsuc n) e = cc
 
-module _ (limit : ℕ) (small : limit ≤ 24860000000000) (v : ℤ) (fv : SFits w64 v) where
+module _ (limit : ℕ) (small : limit ≤ 113 * mostAYear) (v : ℤ) (fv : SFits w64 v) where
   limit-read : toZ w64 limit ≡ pos limit
   limit-read = toZ-pos w64 (omega arith)
 
@@ -129,12 +129,12 @@ as-read v w f e = toZ-ofZ f ∙ e
 
 -- all three of them
 module _ (closed years : ℕ) (ey : years ≡ yearsThrough closed) where
-  pub totals-read : (cells : List ℕ) (count : ℕ) → count ≡ min (getD cells 0 0) years → (paid : ℤ) → paid ≡ totalIn (220000000000 * years) (getD cells 1 0) → (losses : ℤ) → losses ≡ totalIn (220000000000 * years) (getD cells 2 0)
+  pub totals-read : (cells : List ℕ) (count : ℕ) → count ≡ min (getD cells 0 0) years → (paid : ℤ) → paid ≡ totalIn (mostAYear * years) (getD cells 1 0) → (losses : ℤ) → losses ≡ totalIn (mostAYear * years) (getD cells 2 0)
       → _≡_ {A = Totals} (record { years = count; paid = paid; losses = losses }) (totalsIn closed cells)
   unfolding totalsIn totalLimit
   totals-read cells count ec paid ep losses el = rw (ec, ep, el, ey)
 
-  pub totals-kept : (totals : Totals) (paid losses : ℤ) → paid ≡ totals .paid → losses ≡ totals .losses → (p : ℕ) → p ≡ totalCell (220000000000 * years) paid → (l : ℕ) → l ≡ totalCell (220000000000 * years) losses
+  pub totals-kept : (totals : Totals) (paid losses : ℤ) → paid ≡ totals .paid → losses ≡ totals .losses → (p : ℕ) → p ≡ totalCell (mostAYear * years) paid → (l : ℕ) → l ≡ totalCell (mostAYear * years) losses
       → totals .years ∷ p ∷ l ∷ [] ≡ totalCells closed totals
   unfolding totalCells totalLimit
   totals-kept totals paid losses ep el p fp l fl = rw (fp, fl, ep, el, ey)

@@ -6,15 +6,27 @@ use lib.IntN.{ℤ, pos, negsuc, natAbs, _+ℤ_, _-ℤ_}
 use lib.ListN.{getD}
 use Rattle.model.specs.Basics.{if_then_else_}
 use Rattle.model.specs.Kind.{isYear}
+use Rattle.model.specs.Book as model
+use Rattle.model.specs.Step.{withYear}
 use Rattle.line_limits.specs.declared.totals.Totals.{Totals}
+
+-- the model's totals that these are, and these by the model's
+abbrev pub totalsOf : Totals → model.Totals
+totalsOf totals = record { years = totals .years; paid = totals .paid; losses = totals .losses }
+
+abbrev pub totalsBy : model.Totals → Totals
+totalsBy figures = record { years = figures .years; paid = figures .paid; losses = figures .losses }
 
 -- the years from 1987 to the last closed one: none where none is closed
 abbrev pub yearsThrough : ℕ → ℕ
 yearsThrough closed = if isYear closed then closed - 1987 + 1 else 0
 
--- a year's loss is at most 220,000,000,000, either sign, so a total is at most as much for each of these years
+-- what a year can lose at most, either sign; so a total is at most as much for each of these years
+abbrev pub mostAYear : ℕ
+mostAYear = 220000000000
+
 unfoldable pub totalLimit : ℕ → ℕ
-totalLimit closed = 220000000000 * yearsThrough closed
+totalLimit closed = mostAYear * yearsThrough closed
 
 -- a cell has the distance of a total from the least one: what lies past the limit is read as the limit
 unfoldable pub totalIn : ℕ → ℕ → ℤ
@@ -47,6 +59,6 @@ pub record Within (closed : ℕ) (totals : Totals) : Type 0 where
   pub paid : natAbs (totals .paid) ≤ totalLimit closed
   pub losses : natAbs (totals .losses) ≤ totalLimit closed
 
--- the totals with one more year
+-- the totals with one more year, as the model adds it
 abbrev pub withYearOf : Totals → ℤ → ℤ → Totals
-withYearOf totals paid loss = record { years = totals .years + 1; paid = totals .paid +ℤ paid; losses = totals .losses +ℤ loss }
+withYearOf totals paid loss = totalsBy (withYear (totalsOf totals) paid loss)

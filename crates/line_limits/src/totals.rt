@@ -2,8 +2,8 @@
 use kinds::year::Year;
 use kinds::year::is_year;
 ghost use mathlib.Core.Path.{_≡_};
-ghost use Prim.Native.Nat.{_≤_, min};
-ghost use Rattle.line_limits.specs.Totals.{yearsThrough, totalIn, totalCell, totalsIn, totalCells};
+ghost use Prim.Native.Nat.{_*_, _≤_, min};
+ghost use Rattle.line_limits.specs.Totals.{yearsThrough, mostAYear, totalIn, totalCell, totalsIn, totalCells};
 
 // "a line's figures since its first closing": the count of closed years, all paid and all tax-basis losses.
 pub struct Totals {
@@ -52,7 +52,7 @@ fn years_through(closed: u64) -> u64
 
 // The total that a cell has as its distance from the least one: past the limit it is read as the limit.
 fn total_in(cell: u64, limit: u64) -> i64
-    requires { ⌜ limit ≤ 24860000000000 ⌝ }
+    requires { ⌜ limit ≤ 113 * mostAYear ⌝ }
     ensures { λ r. ⌜ r ≡ totalIn limit cell ⌝ }
 {
     let distance = at_most(cell, 2 * limit);
@@ -61,7 +61,7 @@ fn total_in(cell: u64, limit: u64) -> i64
 
 // The cell of a total: past the limit it is kept as the limit.
 fn total_cell(total: i64, limit: u64) -> u64
-    requires { ⌜ limit ≤ 24860000000000 ⌝ }
+    requires { ⌜ limit ≤ 113 * mostAYear ⌝ }
     ensures { λ r. ⌜ r ≡ totalCell limit total ⌝ }
 {
     if total > limit as i64 {

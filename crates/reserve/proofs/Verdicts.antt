@@ -33,7 +33,7 @@ module _ (letter : ℕ) (paid : List ℤ) (unpaid tabular : List ℕ) where
   limits-of-year year = regroup (isYear year) (all isPaid paid) (all isAmount unpaid) (all isAmount tabular)
 
   module _ (lengths : hasLengths (closeYear letter 0 paid unpaid tabular) ≡ true) (limits : hasLimits paid unpaid tabular ≡ true) (factors : List ℕ) where
-    -- what a row can be paid at most, for each of eleven
+    -- what all rows together can be paid at most
     pub paid-limit : natAbs (paidTotal (rowsOf paid unpaid tabular)) ≤ 110000000000
     paid-limit =
         rw (paid-total-is letter 0 paid unpaid tabular lengths)

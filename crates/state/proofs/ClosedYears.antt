@@ -11,12 +11,11 @@ use Rattle.model.specs.Letter.{covered}
 use Rattle.model.specs.Step.{withClosing}
 use Rattle.line_limits.specs.declared.line.Line.{Line}
 use Rattle.line_limits.specs.declared.totals.Totals.{Totals}
-use Rattle.line_limits.specs.Totals.{Within}
-use Rattle.line_limits.proofs.TotalLimits.{kept-back}
+use Rattle.line_limits.specs.Totals.{totalsOf, Within}
 use Rattle.state.specs.Store.{size}
 use Rattle.state.specs.Lines.{Limited, withLineOf, withClosingOf}
 use Rattle.state.specs.Totals.{withTotalsOf}
-use Rattle.state.specs.View.{totalsOf, lineOf, linesOf}
+use Rattle.state.specs.View.{lineOf, linesOf}
 use Rattle.state.proofs.LinePieces as line
 use Rattle.state.proofs.TotalPieces.{totals-here, totals-beside, lines-same, slots-same, totals-long}
 use Rattle.state.proofs.Views.{kept-same, line-aside, line-same, shown-same, put-shown}
@@ -36,13 +35,13 @@ module _ (store : List ℕ) (letter year amount : ℕ) (old : Line) (totals : To
 
   closed-shown : lineOf middle letter new ≡ withClosing (lineOf store letter old) year amount (totalsOf totals)
   unfolding lineOf
-  closed-shown = rw (y, kept-same store middle letter (slots-same store letter year totals c n letter) (old .kept) (old .last), totals-here store letter year totals c n, kept-back year totals w)
+  closed-shown = rw (y, kept-same store middle letter (slots-same store letter year totals c n letter) (old .kept) (old .last), totals-here store letter year totals c n w)
 
   -- the other letters are as they were
   elsewhere : (other : ℕ) → (other ≡ letter → ⊥) → linesOf later other ≡ linesOf store other
   elsewhere other differ =
       shown-same middle later other (line.lines-beside middle letter new c long other differ) (line-aside middle letter new c long other)
-      ∙ shown-same store middle other (lines-same store letter year totals c n other) (record { slots = slots-same store letter year totals c n other; totals = totals-beside store letter year totals c n other differ })
+      ∙ shown-same store middle other (lines-same store letter year totals c n other) (record { slots = slots-same store letter year totals c n other; totals = λ closed. totals-beside store letter year totals c n other closed differ })
 
   -- the view after an accepted YEAR
   pub year-put : linesOf later ≡ put (linesOf store) letter (withClosing (lineOf store letter old) year amount (totalsOf totals))

@@ -19,9 +19,8 @@ use Rattle.state.specs.Lines.{lineStart, noLine, lineIn, lineAt}
 use Rattle.state.specs.Patterns.{keptBack}
 use Rattle.state.specs.View.{lineOf, linesOf, view, emptyBook, emptyStore}
 use Rattle.state.proofs.Pieces as pieces
-use Rattle.line_limits.proofs.TotalLimits.{none-closed}
-use Rattle.state.specs.Totals.{totalCellsAt}
 use Rattle.state.proofs.RatePlaces.{year-place}
+use Rattle.state.proofs.TotalPieces.{zeros-where-none-closed}
 
 no-rate : (year : ℕ) (t : Bool) → isYear year ≡ t → ratesOf (replicate 113 65535) year ≡ none
 unfolding ratesOf
@@ -49,7 +48,7 @@ line-cleared letter false c = rw c
 
 no-line : (letter : ℕ) → linesOf emptyStore letter ≡ model.empty .lines letter
 unfolding linesOf lineOf keptBack
-no-line letter = rw (line-cleared letter (covered letter) refl, none-closed (totalCellsAt emptyStore letter))
+no-line letter = rw (line-cleared letter (covered letter) refl, zeros-where-none-closed emptyStore letter)
 
 pub empty-shown : view emptyBook emptyStore ≡ model.empty
 empty-shown = rw (fun-ext (λ (year : ℕ). no-rate year (isYear year) refl), fun-ext (λ (letter : ℕ). no-line letter))

@@ -12,7 +12,7 @@ use Rattle.state.specs.Store.{size}
 use Rattle.state.specs.Hints.{hintStart, withHintOf}
 use Rattle.state.specs.Lines.{lineStart, lineAt}
 use Rattle.state.specs.Patterns.{slotStart, slotAt}
-use Rattle.state.specs.Totals.{totalCellsAt}
+use Rattle.state.specs.Totals.{totalsAt}
 use Rattle.state.proofs.Places.{covered-place}
 use Rattle.state.proofs.RatePlaces.{year-place}
 use Rattle.state.proofs.Pieces as pieces
@@ -41,5 +41,5 @@ module _ (store : List ℕ) (year hint : ℕ) (y : isYear year ≡ true) (n : le
   pub slots-same : (letter accident : ℕ) → slotAt later letter accident ≡ slotAt store letter accident
   slots-same letter accident = slot-same letter accident (covered letter) refl
 
-  pub totals-same : (letter : ℕ) → totalCellsAt later letter ≡ totalCellsAt store letter
-  totals-same letter = rw y (totals-past store (hint ∷ []) (hintStart year) room (omega (arith, year-place year y)) letter)
+  pub totals-same : (letter closed : ℕ) → totalsAt later letter closed ≡ totalsAt store letter closed
+  totals-same letter closed = rw y (totals-past store (hint ∷ []) (hintStart year) room (omega (arith, year-place year y)) letter closed)

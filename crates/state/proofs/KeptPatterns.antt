@@ -109,7 +109,7 @@ module _ (store : List ℕ) (letter year rate : ℕ) (pay : List ℕ) (c : cover
 
     pattern-kept : lineOf later letter new ≡ withPattern letter (lineOf store letter old) (keptPattern letter year rate pay)
     unfolding lineOf
-    pattern-kept = rw (all-kept (ages letter) (old .kept) (old .last) (ages-small letter) next, totals-same store letter year cells c n eleven-cells letter)
+    pattern-kept = rw (all-kept (ages letter) (old .kept) (old .last) (ages-small letter) next, totals-same store letter year cells c n eleven-cells letter (old .closed))
 
     -- the other letters are as they were
     elsewhere : (other : ℕ) → (other ≡ letter → ⊥) → linesOf last-store other ≡ linesOf store other

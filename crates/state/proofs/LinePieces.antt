@@ -15,7 +15,7 @@ use Rattle.line_limits.specs.Limits.{limitedOf}
 use Rattle.state.specs.Store.{piece, written, size}
 use Rattle.state.specs.Lines.{placeOf, lineStart, noLine, lineIn, cellsOf, Limited, lineAt, withLineOf}
 use Rattle.state.specs.Patterns.{slotStart, slotAt}
-use Rattle.state.specs.Totals.{totalCellsAt}
+use Rattle.state.specs.Totals.{totalsAt}
 use Rattle.state.proofs.Places.{covered-place, places-differ}
 use Rattle.state.proofs.TotalPieces.{totals-past}
 use Rattle.state.proofs.Pieces as pieces
@@ -86,8 +86,8 @@ module _ (store : List ℕ) (letter : ℕ) (line : Line) (c : covered letter ≡
   slots-same other year = slot-same other year (covered other) refl
 
   -- and so do the totals
-  pub totals-same : (other : ℕ) → totalCellsAt later other ≡ totalCellsAt store other
-  totals-same other = rw c (totals-past store (cellsOf line) (lineStart letter) room (omega (arith, covered-place letter c)) other)
+  pub totals-same : (other closed : ℕ) → totalsAt later other closed ≡ totalsAt store other closed
+  totals-same other closed = rw c (totals-past store (cellsOf line) (lineStart letter) room (omega (arith, covered-place letter c)) other closed)
 
   pub line-long : length later ≡ size
   line-long = rw c (pieces.long store (cellsOf line) (lineStart letter) room ∙ n)

@@ -11,7 +11,7 @@ use Rattle.model.specs.Letter.{covered}
 use Rattle.state.specs.Store.{piece, written, slotsStart, size}
 use Rattle.state.specs.Lines.{placeOf, lineStart, lineAt}
 use Rattle.state.specs.Patterns.{slotStart, slotAt, factorIn, factorAt, withSlotOf}
-use Rattle.state.specs.Totals.{totalCellsAt}
+use Rattle.state.specs.Totals.{totalsAt}
 use Rattle.state.proofs.Places.{covered-place, places-differ}
 use Rattle.state.proofs.TotalPieces.{totals-past}
 use Rattle.state.proofs.Pieces as pieces
@@ -88,8 +88,8 @@ module _ (store : List ℕ) (letter year : ℕ) (cells : List ℕ) (c : covered 
   lines-same other = line-same other (covered other) refl
 
   -- the totals stand past the slots
-  pub totals-same : (other : ℕ) → totalCellsAt later other ≡ totalCellsAt store other
-  totals-same other = rw c (totals-past store cells (slotStart letter year) room (omega (arith, covered-place letter c)) other)
+  pub totals-same : (other closed : ℕ) → totalsAt later other closed ≡ totalsAt store other closed
+  totals-same other closed = rw c (totals-past store cells (slotStart letter year) room (omega (arith, covered-place letter c)) other closed)
 
   pub slot-long : length later ≡ size
   slot-long = rw c (pieces.long store cells (slotStart letter year) room ∙ n)

@@ -7,39 +7,58 @@ use mathlib.Core.Path.{_≡_, refl, _∙_}
 use Prim.Native.Nat.{ℕ, _+_, _*_, _≤_, _<_}
 use native.Mathlib.Omega.{arith}
 use lib.ListN.{length, getD}
+use Rattle.model.specs.Book.{noTotals}
 use Rattle.model.specs.Letter.{covered}
 use Rattle.line_limits.specs.declared.totals.Totals.{Totals}
-use Rattle.line_limits.specs.Totals.{totalsIn, totalCells}
+use Rattle.line_limits.specs.Totals.{totalsBy, totalsIn, totalCells, Within}
+use Rattle.line_limits.proofs.TotalLimits.{read-within, none-within, kept-back, none-closed}
 use Rattle.state.specs.Store.{piece, written, totalsStart, size}
 use Rattle.state.specs.Lines.{placeOf, lineStart, lineAt}
 use Rattle.state.specs.Patterns.{slotStart, slotAt}
-use Rattle.state.specs.Totals.{totalStart, totalCellsAt, totalsAt, withTotalsOf}
+use Rattle.state.specs.Totals.{totalStart, totalsAt, withTotalsOf}
 use Rattle.state.proofs.Places.{covered-place, places-differ}
 use Rattle.state.proofs.Pieces as pieces
 use Rattle.state.proofs.Pieces.{first-or-later}
 
 -- cells written before the totals leave them as they were
 module _ (store cells : List ℕ) (at : ℕ) (room : at + length cells ≤ length store) (first : at + length cells ≤ totalsStart) where
-  past-by : (letter : ℕ) (t : Bool) → covered letter ≡ t → totalCellsAt (written store at cells) letter ≡ totalCellsAt store letter
-  unfolding totalCellsAt
-  past-by letter true c = rw (c, pieces.after store cells at room (totalStart letter) 3 (omega (arith, first)))
-  past-by letter false c = rw c
+  past-by : (letter closed : ℕ) (t : Bool) → covered letter ≡ t → totalsAt (written store at cells) letter closed ≡ totalsAt store letter closed
+  unfolding totalsAt
+  past-by letter closed true c = rw (c, pieces.after store cells at room (totalStart letter) 3 (omega (arith, first)))
+  past-by letter closed false c = rw c
 
-  pub totals-past : (letter : ℕ) → totalCellsAt (written store at cells) letter ≡ totalCellsAt store letter
-  totals-past letter = past-by letter (covered letter) refl
+  pub totals-past : (letter closed : ℕ) → totalsAt (written store at cells) letter closed ≡ totalsAt store letter closed
+  totals-past letter closed = past-by letter closed (covered letter) refl
+
+-- what is read is within its limits, and zeros where none is closed
+within-by : (store : List ℕ) (letter closed : ℕ) (t : Bool) → covered letter ≡ t → Within closed (totalsAt store letter closed)
+unfolding totalsAt
+within-by store letter closed true c = rw c (read-within closed (piece store (totalStart letter) 3))
+within-by store letter closed false c = rw c (none-within closed)
+
+pub totals-within : (store : List ℕ) (letter closed : ℕ) → Within closed (totalsAt store letter closed)
+totals-within store letter closed = within-by store letter closed (covered letter) refl
+
+zeros-by : (store : List ℕ) (letter : ℕ) (t : Bool) → covered letter ≡ t → totalsAt store letter 0 ≡ totalsBy noTotals
+unfolding totalsAt
+zeros-by store letter true c = rw c (none-closed (piece store (totalStart letter) 3))
+zeros-by store letter false c = rw c
+
+pub zeros-where-none-closed : (store : List ℕ) (letter : ℕ) → totalsAt store letter 0 ≡ totalsBy noTotals
+zeros-where-none-closed store letter = zeros-by store letter (covered letter) refl
 
 -- as code reads them: three cells
 module _ (store : List ℕ) (letter closed : ℕ) (t : Bool) (et : t ≡ covered letter) where
   pub totals-read : t ≡ true → (at : ℕ) → at ≡ totalStart letter → (totals : Totals) → totals ≡ totalsIn closed (getD store at 0 ∷ getD store (at + 1) 0 ∷ getD store (at + 2) 0 ∷ []) → totals ≡ totalsAt store letter closed
-  unfolding totalCellsAt totalsIn
+  unfolding totalsAt totalsIn
   totals-read c at ea totals er =
       let cell : (j : ℕ) → j < 3 → getD (piece store (totalStart letter) 3) j 0 ≡ getD store (totalStart letter + j) 0 = pieces.cell store (totalStart letter) 3 in
       let first : totalStart letter + 0 ≡ totalStart letter = omega arith in
       rw (er, ← et, c, cell 0 (omega arith), cell 1 (omega arith), cell 2 (omega arith), first, ← ea)
 
-  pub no-totals-read : t ≡ false → (totals : Totals) → totals ≡ totalsIn closed (0 ∷ 0 ∷ 0 ∷ []) → totals ≡ totalsAt store letter closed
-  unfolding totalCellsAt
-  no-totals-read c totals er = rw (er, ← et, c)
+  pub no-totals-read : t ≡ false → totalsBy noTotals ≡ totalsAt store letter closed
+  unfolding totalsAt
+  no-totals-read c = rw (← et, c)
 
 -- as code keeps them
 module _ (store : List ℕ) (letter closed : ℕ) (totals : Totals) (t : Bool) (et : t ≡ covered letter) where
@@ -63,9 +82,9 @@ module _ (store : List ℕ) (letter closed : ℕ) (totals : Totals) (c : covered
   room : totalStart letter + length cells ≤ length store
   room = omega (arith, covered-place letter c, three)
 
-  pub totals-here : totalCellsAt later letter ≡ cells
-  unfolding totalCellsAt
-  totals-here = rw c (pieces.here store cells (totalStart letter) room 3 three)
+  pub totals-here : Within closed totals → totalsAt later letter closed ≡ totals
+  unfolding totalsAt
+  totals-here w = rw (c, pieces.here store cells (totalStart letter) room 3 three) (kept-back closed totals w)
 
   apart : (place : ℕ) → (place ≡ placeOf letter → ⊥) → piece later (totalsStart + place * 3) 3 ≡ piece store (totalsStart + place * 3) 3
   apart place differ =
@@ -75,13 +94,13 @@ module _ (store : List ℕ) (letter closed : ℕ) (totals : Totals) (c : covered
       (λ (gt : placeOf letter < place). pieces.after store cells (totalStart letter) room (totalsStart + place * 3) 3 (omega (arith, three)))
       (first-or-later place (placeOf letter) differ))
 
-  beside-by : (other : ℕ) → (other ≡ letter → ⊥) → (t : Bool) → covered other ≡ t → totalCellsAt later other ≡ totalCellsAt store other
-  unfolding totalCellsAt
-  beside-by other differ true o = rw (o, apart (placeOf other) (places-differ other letter o c differ))
-  beside-by other differ false o = rw o
+  beside-by : (other year : ℕ) → (other ≡ letter → ⊥) → (t : Bool) → covered other ≡ t → totalsAt later other year ≡ totalsAt store other year
+  unfolding totalsAt
+  beside-by other year differ true o = rw (o, apart (placeOf other) (places-differ other letter o c differ))
+  beside-by other year differ false o = rw o
 
-  pub totals-beside : (other : ℕ) → (other ≡ letter → ⊥) → totalCellsAt later other ≡ totalCellsAt store other
-  totals-beside other differ = beside-by other differ (covered other) refl
+  pub totals-beside : (other year : ℕ) → (other ≡ letter → ⊥) → totalsAt later other year ≡ totalsAt store other year
+  totals-beside other year differ = beside-by other year differ (covered other) refl
 
   -- the lines and the slots stand before the totals
   line-same : (other : ℕ) (t : Bool) → covered other ≡ t → lineAt later other ≡ lineAt store other

@@ -16,7 +16,7 @@ use Rattle.state.specs.Store.{size}
 use Rattle.state.specs.Hints.{withHintOf}
 use Rattle.state.specs.Lines.{Limited, lineAt, withLineOf}
 use Rattle.state.specs.Patterns.{slotAt, keptBack}
-use Rattle.state.specs.Totals.{totalCellsAt}
+use Rattle.state.specs.Totals.{totalsAt}
 use Rattle.state.specs.View.{lineOf, linesOf}
 use Rattle.state.proofs.HintPieces as hint
 use Rattle.state.proofs.LinePieces.{line-here, lines-beside, slots-same, totals-same}
@@ -30,11 +30,11 @@ kept-same store later letter h (suc n) year = rw (h year, kept-same store later 
 -- of a line the view shows its cells, its slots and its totals
 pub record Same (store later : List ℕ) (letter : ℕ) : Type 0 where
   pub slots : (year : ℕ) → slotAt later letter year ≡ slotAt store letter year
-  pub totals : totalCellsAt later letter ≡ totalCellsAt store letter
+  pub totals : (closed : ℕ) → totalsAt later letter closed ≡ totalsAt store letter closed
 
 pub line-same : (store later : List ℕ) (letter : ℕ) → Same store later letter → (line : Line) → lineOf later letter line ≡ lineOf store letter line
 unfolding lineOf
-line-same store later letter s line = rw (kept-same store later letter (s .slots) (line .kept) (line .last), s .totals)
+line-same store later letter s line = rw (kept-same store later letter (s .slots) (line .kept) (line .last), s .totals (line .closed))
 
 pub shown-same : (store later : List ℕ) (letter : ℕ) → lineAt later letter ≡ lineAt store letter → Same store later letter → linesOf later letter ≡ linesOf store letter
 unfolding linesOf

@@ -2,11 +2,11 @@
 -- Assumes nothing: these are definitions.
 use mathlib.Core.List.{List}
 use Prim.Native.Nat.{ℕ, _+_, _*_}
-use lib.ListN.{replicate}
 use Rattle.model.specs.Basics.{if_then_else_}
+use Rattle.model.specs.Book.{noTotals}
 use Rattle.model.specs.Letter.{covered}
 use Rattle.line_limits.specs.declared.totals.Totals.{Totals}
-use Rattle.line_limits.specs.Totals.{totalsIn, totalCells}
+use Rattle.line_limits.specs.Totals.{totalsBy, totalsIn, totalCells}
 use Rattle.state.specs.Store.{piece, written, totalsStart}
 use Rattle.state.specs.Lines.{placeOf}
 
@@ -14,13 +14,9 @@ use Rattle.state.specs.Lines.{placeOf}
 abbrev pub totalStart : ℕ → ℕ
 totalStart letter = totalsStart + placeOf letter * 3
 
--- their cells: a letter that is not covered has none, and zeros are read
-unfoldable pub totalCellsAt : List ℕ → ℕ → List ℕ
-totalCellsAt store letter = if covered letter then piece store (totalStart letter) 3 else replicate 3 0
-
--- the totals of a letter, by its last closed year
-abbrev pub totalsAt : List ℕ → ℕ → ℕ → Totals
-totalsAt store letter closed = totalsIn closed (totalCellsAt store letter)
+-- the totals of a letter, by its last closed year: a letter that is not covered has zeros
+unfoldable pub totalsAt : List ℕ → ℕ → ℕ → Totals
+totalsAt store letter closed = if covered letter then totalsIn closed (piece store (totalStart letter) 3) else totalsBy noTotals
 
 -- the store with the totals of a letter anew: as it was, where the letter is not covered
 abbrev pub withTotalsOf : List ℕ → ℕ → ℕ → Totals → List ℕ

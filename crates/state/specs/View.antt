@@ -9,15 +9,12 @@ use Rattle.model.specs.Kind.{isYear}
 use Rattle.model.specs.Book as model
 use Rattle.state.specs.declared.book.Book.{Book}
 use Rattle.line_limits.specs.declared.line.Line.{Line}
-use Rattle.line_limits.specs.declared.totals.Totals.{Totals}
+use Rattle.line_limits.specs.Totals.{totalsOf}
 use Rattle.state.specs.Store.{size}
 use Rattle.state.specs.Rates.{ratesOf}
 use Rattle.state.specs.Lines.{lineAt}
 use Rattle.state.specs.Patterns.{keptBack}
 use Rattle.state.specs.Totals.{totalsAt}
-
-abbrev pub totalsOf : Totals → model.Totals
-totalsOf totals = record { years = totals .years; paid = totals .paid; losses = totals .losses }
 
 unfoldable pub lineOf : List ℕ → ℕ → Line → model.Line
 lineOf store letter line =

@@ -11,7 +11,7 @@ ghost use lib.ListN.{length};
 ghost use Rattle.state.specs.Store.{size};
 ghost use Rattle.state.specs.Totals.{totalsAt, withTotalsOf};
 
-// A letter's totals, by the last closed year of its line, or 0 where there is none. For a letter that is not covered zeros are read.
+// A letter's totals, by the last closed year of its line, or 0 where there is none. A letter that is not covered has zeros.
 pub fn totals_of(store: &Store, letter: u8, closed: u64) -> Totals
     ensures { λ r. ⌜ r ≡ totalsAt (now (store .entry)) letter closed ⌝ }
 {
@@ -22,7 +22,11 @@ pub fn totals_of(store: &Store, letter: u8, closed: u64) -> Totals
         let losses = store[at + 2];
         return totals_in(closed, [years, paid, losses]);
     }
-    totals_in(closed, [0; 3])
+    Totals {
+        years: 0,
+        paid: 0,
+        losses: 0,
+    }
 }
 
 // The store with a letter's totals anew, by the last closed year: as it was, where the letter is not covered.

@@ -1,5 +1,5 @@
 -- `closings::totals::add_year` meets its contract. Assumes nothing.
-use Rattle.closings.proofs.Growths.{growing, year-read, year-kept}
+use Rattle.closings.proofs.YearAdded.{growing, year-read, year-kept}
 use borrow.Author.Needs.{needs}
 use Rattle.closings.proofs.totals.add_year.Statement.{statement}
 use Rattle.closings.proofs.totals.add_year.Tie as tie
@@ -10,7 +10,7 @@ totals-of-requires c κs = search needs
 with-year-requires : tie.Need-with-year-requires
 with-year-requires c κs =
     let start = c .before .before .before in
-    growing (start .args .closed) _ _ (c .before .totals-of .ensures) _ _ (year-read (start .args .paid) (start .args .loss) (start .pre))
+    growing _ _ (start .args .closed) _ (c .before .totals-of .ensures) _ _ (year-read (start .args .paid) (start .args .loss) (start .pre))
 
 keep-totals-requires : tie.Need-keep-totals-requires
 keep-totals-requires c κs = search needs

@@ -1,5 +1,5 @@
 -- `closings::totals::with_year` meets its contract. Assumes nothing.
-use Rattle.closings.proofs.Growths.{paid-fits, losses-fit, year-added}
+use Rattle.closings.proofs.YearAdded.{paid-fits, losses-fit, year-added}
 use borrow.Author.Needs.{needs}
 use Rattle.closings.proofs.totals.with_year.Statement.{statement}
 use Rattle.closings.proofs.totals.with_year.Tie as tie

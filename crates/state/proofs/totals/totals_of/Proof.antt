@@ -41,9 +41,6 @@ totals-in-requires c κs = search needs
 returns : tie.Need-returns
 returns c = search totals-read
 
-totals-in-requires-2 : tie.Need-totals-in-requires-2
-totals-in-requires-2 c κs = search needs
-
 returns-2 : tie.Need-returns-2
 returns-2 c = search no-totals-read
 
@@ -63,5 +60,4 @@ totals-of-spec =
     element-copy-out-losses
     totals-in-requires
     returns
-    totals-in-requires-2
     returns-2)

@@ -2,20 +2,21 @@
 -- Assumes nothing.
 use mathlib.Core.List.{List}
 use mathlib.Core.Path.{_≡_, ap, _∙_}
-use Prim.Native.Nat.{ℕ, _+_, _≤_, _<_, _^_}
+use Prim.Native.Nat.{ℕ, _+_, _*_, _≤_, _<_, _^_}
 use native.Mathlib.Omega.{arith}
 use lib.IntN.{ℤ, natAbs, _+ℤ_}
 use mir.Syntax.{w64}
 use mir.Val.{SFits, toZ, ofZ}
 use Rattle.money.proofs.Signed.{sum-size, size-fits, read-back}
 use Rattle.line_limits.specs.declared.totals.Totals.{Totals}
-use Rattle.line_limits.specs.Totals.{totalLimit, totalsIn, Within, withYearOf}
-use Rattle.line_limits.proofs.TotalLimits.{read-within, within-last, limit-small}
+use Rattle.line_limits.specs.Totals.{mostAYear, totalLimit, withYearOf}
+use Rattle.line_limits.proofs.TotalLimits.{within-last, limit-small}
 use Rattle.state.specs.Totals.{totalsAt, withTotalsOf}
+use Rattle.state.proofs.TotalPieces.{totals-within}
 use Rattle.closings.specs.Totals.{OfAYear, Growing}
 
-module _ (before more : ℤ) (within : natAbs before ≤ totalLimit 2099) (year : natAbs more ≤ 220000000000) where
-  small : natAbs before ≤ 24860000000000
+module _ (before more : ℤ) (within : natAbs before ≤ totalLimit 2099) (year : natAbs more ≤ mostAYear) where
+  small : natAbs before ≤ 113 * mostAYear
   small = omega (arith, within, limit-small 2099)
 
   sum-small : natAbs (before +ℤ more) < 2 ^ 63
@@ -38,10 +39,8 @@ module _ (before : Totals) (paid loss : ℤ) (g : Growing before paid loss) wher
   year-added = rw (sum-read (before .paid) paid (g .within .paid) (g .year .paid-limit), sum-read (before .losses) loss (g .within .losses) (g .year .loss-limit))
 
 -- totals that were read
-pub growing : (closed : ℕ) (cells : List ℕ) (before : Totals) → before ≡ totalsIn closed cells → (paid loss : ℤ) → OfAYear paid loss → Growing before paid loss
-growing closed cells before e paid loss y =
-    let w : Within closed before = rw e (read-within closed cells) in
-    record { within = within-last closed before w; year = y }
+pub growing : (store : List ℕ) (letter closed : ℕ) (before : Totals) → before ≡ totalsAt store letter closed → (paid loss : ℤ) → OfAYear paid loss → Growing before paid loss
+growing store letter closed before e paid loss y = record { within = within-last closed before (rw e (totals-within store letter closed)); year = y }
 
 -- as code adds a year to the totals in the store
 module _ (paid loss : ℤ) (y : OfAYear paid loss) where
