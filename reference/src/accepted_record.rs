@@ -104,9 +104,13 @@ pub fn rate_record(random: &mut Random, year: u64) -> Fields {
 /// With this incurred every odd paid has a ratio that ends in a half.
 const INCURRED_OF_HALVES: u64 = 200_000_000;
 
-/// A PATT in which no ratio falls.
+/// A PATT in which no ratio falls; now and then the widest that there is.
 pub fn pattern_record(random: &mut Random, letter: Letter, year: u64) -> Fields {
     let mut fields = vec!["PATT".into(), letter.character().into(), year.to_string()];
+    if random.once_in(100) {
+        fields.extend(vec![HIGHEST_AMOUNT.to_string(); 2 * letter.kind().ages()]);
+        return fields;
+    }
     let highest = match random.below(8) {
         0 => HIGHEST_AMOUNT,
         1 => random.between(1, 1_000),
@@ -201,7 +205,8 @@ fn with_small_last_payments(random: &mut Random) -> Vec<u64> {
     cumulative
 }
 
-/// A YEAR whose age rows have a gross only where the line keeps a pattern.
+/// A YEAR whose age rows have a gross only where the line keeps a pattern; now
+/// and then the widest such one.
 pub fn year_record(
     random: &mut Random,
     letter: Letter,
@@ -210,17 +215,33 @@ pub fn year_record(
 ) -> Fields {
     let mut fields = vec!["YEAR".into(), letter.character().into(), year.to_string()];
     let ages = letter.kind().ages();
+    let widest = random.once_in(12);
     for age in 1..=ages + 1 {
-        fields.push(paid_in_year(random));
         let has_pattern = line.is_some_and(|line| line.pattern_of_row(year, age).is_some());
+        let [paid, unpaid, tabular] = if widest {
+            widest_row()
+        } else {
+            any_row(random)
+        };
+        fields.push(paid);
         if age > ages || has_pattern {
-            fields.push(random.amount().to_string());
-            fields.push(tabular_discount(random));
+            fields.extend([unpaid, tabular]);
         } else {
             fields.extend(["0".to_string(), "0".to_string()]);
         }
     }
     fields
+}
+
+fn widest_row() -> [String; 3] {
+    let highest = HIGHEST_AMOUNT.to_string();
+    [format!("-{highest}"), highest.clone(), highest]
+}
+
+fn any_row(random: &mut Random) -> [String; 3] {
+    let paid = paid_in_year(random);
+    let unpaid = random.amount().to_string();
+    [paid, unpaid, tabular_discount(random)]
 }
 
 fn paid_in_year(random: &mut Random) -> String {

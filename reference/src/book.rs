@@ -128,7 +128,12 @@ impl Book {
     /// accepted and the accepted count is one higher. Either count stops at
     /// 2^64 - 1."
     pub fn answer(&mut self, line: &[u8]) -> Answer {
-        match read(line).and_then(|request| self.accept(request)) {
+        self.answer_request(read(line))
+    }
+
+    /// The answer to a line that has been read.
+    pub fn answer_request(&mut self, request: Result<Request, Question>) -> Answer {
+        match request.and_then(|request| self.accept(request)) {
             Ok(answer) => {
                 self.accepted = self.accepted.saturating_add(1);
                 answer

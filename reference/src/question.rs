@@ -3,7 +3,8 @@
 /// "A 'no' refuses with that question's number."
 #[derive(Clone, Copy, Debug, PartialEq, Eq, PartialOrd, Ord)]
 pub enum Question {
-    /// "Has the line at most 1,024 bytes?"
+    /// "Has the line at most 1,024 bytes?", with another limit: "Make 418 the
+    /// limit in question 1."
     LineLength = 1,
     /// "Is the first field, byte for byte, one of the four words?" SUM joins
     /// them: "New records' words, here and below, join question 2's."

@@ -6,8 +6,8 @@ use crate::question::Question;
 use crate::rate::MONTHS;
 use crate::reserve::Row;
 
-/// "Has the line at most 1,024 bytes?"
-pub const LONGEST_LINE: usize = 1_024;
+/// "Make 418 the limit in question 1."
+pub const LONGEST_LINE: usize = 418;
 
 /// "Fields are parted by one tab."
 pub const TAB: u8 = 9;
@@ -41,7 +41,12 @@ pub enum Request {
 /// The request in a line, or the first question with a "no". The byte 10 that
 /// ends the line is not part of it.
 pub fn read(line: &[u8]) -> Result<Request, Question> {
-    if line.len() > LONGEST_LINE {
+    read_within(line, LONGEST_LINE)
+}
+
+/// The same with another limit in question 1.
+pub fn read_within(line: &[u8], longest_line: usize) -> Result<Request, Question> {
+    if line.len() > longest_line {
         return Err(Question::LineLength);
     }
     let fields: Vec<&[u8]> = line.split(|byte| *byte == TAB).collect();

@@ -11,11 +11,11 @@ use crate::record::{line_numbers, pattern_numbers, rate_numbers, year_numbers, L
 pub fn refused_line(random: &mut Random, book: &Book, number: u8) -> Option<Vec<u8>> {
     match number {
         1 => Some(long_line(random)),
-        2 => Some(wrong_word(random)),
-        3 => Some(wrong_letter(random)),
-        4 => Some(line_of(wrong_count(random))),
-        5 => Some(badly_written(random)),
-        6 => Some(past_a_limit_line(random)),
+        2 => Some(not_too_long(random, wrong_word_line)),
+        3 => Some(not_too_long(random, wrong_letter)),
+        4 => Some(not_too_long(random, |random| line_of(wrong_count(random)))),
+        5 => Some(not_too_long(random, badly_written_line)),
+        6 => Some(not_too_long(random, past_a_limit_line)),
         7 => given_before(random, book).map(line_of),
         8 => undeclared(random, book).map(line_of),
         9 => without_rate(random, book).map(line_of),
@@ -56,12 +56,42 @@ fn record_with_numbers(random: &mut Random) -> Fields {
     }
 }
 
-/// A line of 1,025 bytes or more, whose start is often a good record.
+/// A line of 419 bytes or more, whose start is often a good record.
 fn long_line(random: &mut Random) -> Vec<u8> {
-    let mut line = line_of(any_record(random));
-    let length = LONGEST_LINE + 1 + random.choice(&[0, 0, 1, 900, 5_000]);
-    line.resize(length, random.choice(b"0 \tx"));
+    let line = match random.below(6) {
+        0 => wrong_word(random),
+        1 => wrong_letter(random),
+        2 => line_of(past_a_limit(random)),
+        _ => line_of(any_record(random)),
+    };
+    let length = LONGEST_LINE + 1 + random.choice(&[0, 0, 0, 1, 100, 500, 900, 5_000]);
+    filled(line, length, random.choice(b"0 \tx"))
+}
+
+/// The first of the lines made that question 1 lets through.
+fn not_too_long(random: &mut Random, line: impl Fn(&mut Random) -> Vec<u8>) -> Vec<u8> {
+    let mut lines = std::iter::repeat_with(|| line(random));
+    let found = lines.find(|line| line.len() <= LONGEST_LINE);
+    found.expect("most lines are short")
+}
+
+/// A shorter line is filled up to the length.
+fn filled(mut line: Vec<u8>, length: usize, filler: u8) -> Vec<u8> {
+    line.resize(line.len().max(length), filler);
     line
+}
+
+/// Now and then a line is filled up to the longest that there is.
+fn sometimes_filled(random: &mut Random, line: Vec<u8>, filler: u8) -> Vec<u8> {
+    if random.once_in(8) {
+        return filled(line, LONGEST_LINE, filler);
+    }
+    line
+}
+
+fn wrong_word_line(random: &mut Random) -> Vec<u8> {
+    let line = wrong_word(random);
+    sometimes_filled(random, line, b'x')
 }
 
 fn wrong_word(random: &mut Random) -> Vec<u8> {
@@ -174,13 +204,18 @@ fn badly_written(random: &mut Random) -> Vec<u8> {
     parts.join(&b'\t')
 }
 
-/// A number past its limit; now and then it fills the line to 1,024 bytes.
+fn badly_written_line(random: &mut Random) -> Vec<u8> {
+    let line = badly_written(random);
+    sometimes_filled(random, line, b'x')
+}
+
+/// Digits that fill the line up would give a last 0 a leading zero.
 fn past_a_limit_line(random: &mut Random) -> Vec<u8> {
-    let mut line = line_of(past_a_limit(random));
-    if random.once_in(8) && !line.ends_with(b"\t0") {
-        line.resize(LONGEST_LINE, b'7');
+    let line = line_of(past_a_limit(random));
+    if line.ends_with(b"\t0") {
+        return line;
     }
-    line
+    sometimes_filled(random, line, b'7')
 }
 
 /// One number past its limit, by one or by much.

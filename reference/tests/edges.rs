@@ -138,22 +138,17 @@ fn badly_written_numbers() {
 }
 
 #[test]
-fn numbers_of_a_thousand_digits_are_well_written() {
+fn numbers_of_four_hundred_digits_are_well_written() {
     let mut book = two_year_book();
-    let nines = "9".repeat(1_000);
-    let one_and_zeros = format!("1{}", "0".repeat(999));
+    let nines = "9".repeat(400);
+    let one_and_zeros = format!("1{}", "0".repeat(399));
     for digits in [nines, one_and_zeros] {
         assert_eq!(answer(&mut book, &format!("LINE K {digits}")), "NO 6");
-        assert_eq!(
-            answer(&mut book, &year_with(0, &format!("-{}", &digits[..900]))),
-            "NO 6"
-        );
-        assert_eq!(
-            answer(&mut book, &year_with(1, &format!("-{}", &digits[..900]))),
-            "NO 5"
-        );
+        let signed = format!("-{}", &digits[..380]);
+        assert_eq!(answer(&mut book, &year_with(0, &signed)), "NO 6");
+        assert_eq!(answer(&mut book, &year_with(1, &signed)), "NO 5");
     }
-    let leading_zero = format!("LINE K 0{}", "1".repeat(999));
+    let leading_zero = format!("LINE K 0{}", "1".repeat(399));
     assert_eq!(answer(&mut book, &leading_zero), "NO 5");
 }
 
@@ -176,12 +171,13 @@ fn numbers_past_the_ends_of_machine_words() {
 }
 
 #[test]
-fn lines_of_1024_and_1025_bytes() {
+fn lines_as_long_as_allowed_and_longer() {
     for (length, number) in [
-        (1_023, "NO 6"),
-        (1_024, "NO 6"),
+        (417, "NO 6"),
+        (418, "NO 6"),
+        (419, "NO 1"),
+        (1_024, "NO 1"),
         (1_025, "NO 1"),
-        (1_026, "NO 1"),
     ] {
         let mut long = line("LINE A ");
         long.resize(length, b'1');
@@ -189,12 +185,13 @@ fn lines_of_1024_and_1025_bytes() {
         long.push(b'\n');
         assert_eq!(output(&long), [number, "DONE 0 1"]);
     }
-    assert_eq!(output(&[b'x'; 1_024]), ["NO 2", "DONE 0 1"]);
-    assert_eq!(output(&[b'x'; 1_025]), ["NO 1", "DONE 0 1"]);
-    assert_eq!(output(&[b'\t'; 1_024]), ["NO 2", "DONE 0 1"]);
+    for byte in *b"x\t\r" {
+        assert_eq!(output(&[byte; 418]), ["NO 2", "DONE 0 1"]);
+        assert_eq!(output(&[byte; 419]), ["NO 1", "DONE 0 1"]);
+    }
 }
 
-/// The whole line is skipped: what follows byte 1,024 is no record of its own.
+/// The whole line is skipped: what follows byte 418 is no record of its own.
 #[test]
 fn a_line_of_a_mebibyte_is_one_record() {
     let long = vec![b'\t'; 1 << 20];

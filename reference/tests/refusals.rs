@@ -34,8 +34,9 @@ fn case(number: u8, refused: &str, accepted: &str) -> Case {
 fn cases_of_reading() -> Vec<Case> {
     let sixty = repeated("5", 60);
     vec![
-        // No record of more than 1,024 bytes has numbers within their limits.
-        case(1, &format!("LINE K {}", "1".repeat(1_018)), "LINE K 1"),
+        // "No accepted record can have more than 418 bytes": a later question
+        // has a no too.
+        case(1, &format!("LINE K {}", "1".repeat(412)), "LINE K 1"),
         case(
             2,
             &format!("rate 2017 {sixty}"),
@@ -67,7 +68,7 @@ fn cases_of_reading() -> Vec<Case> {
 
 fn cases_of_sums() -> Vec<Case> {
     vec![
-        case(1, &format!("SUM J {}", "1".repeat(1_019)), "SUM J"),
+        case(1, &format!("SUM J {}", "1".repeat(413)), "SUM J"),
         case(2, "sum J", "SUM J"),
         case(2, "SUMS J", "SUM J"),
         case(2, "SU J", "SUM J"),
@@ -172,7 +173,7 @@ fn the_questions_come_in_their_order() {
         (10, "YEAR J 2016 0 1 0 0 1 0 0 1 0".to_string()),
         (11, "PATT J 2016 2 2 2 0".to_string()),
         (11, "PATT J 2016 3 2 1 2".to_string()),
-        (1, format!("SUMS M {}", "1".repeat(1_018))),
+        (1, format!("SUMS M {}", "1".repeat(412))),
         (2, "SUMS M 1".to_string()),
         (2, "SUM\r M 1".to_string()),
         (3, "SUM M ".to_string()),

@@ -100,11 +100,33 @@ fn the_edges_have_every_answer_every_refusal_and_no_last_byte_10() {
         let alone: &[u8] = if byte == b'\n' { b"" } else { &line };
         assert!(records(&input).contains(&alone), "{byte}");
     }
-    for (length, has_1) in [(1_024, false), (1_025, true)] {
-        let edges = edges();
-        let mut edges = edges.iter().filter(|edge| edge.line.len() == length);
-        assert!(edges.all(|edge| (edge.answer == "NO 1") == has_1));
+    for edge in edges() {
+        assert_eq!(edge.answer == "NO 1", edge.line.len() > 418);
     }
+}
+
+/// The longest line of `test_edges` that is answered so, of ten-year line B and
+/// of two-year line S where the kind of line matters.
+#[test]
+fn the_edges_have_the_widest_record_of_each_kind() {
+    let edges = edges();
+    let longest_with = |answer: &str| {
+        let answered = edges.iter().filter(|edge| edge.answer.starts_with(answer));
+        answered.map(|edge| edge.line.len()).max()
+    };
+    for (answer, longest) in [
+        ("LINE ", 19),
+        ("RATE ", 309),
+        ("FACT B ", 251),
+        ("FACT S ", 59),
+        ("TAX B ", 418),
+        ("TAX S ", 122),
+        ("SUM ", 5),
+    ] {
+        assert_eq!(longest_with(answer), Some(longest), "{answer}");
+    }
+    let one_more = edges.iter().filter(|edge| edge.line.len() == 419);
+    assert!(one_more.count() > 3);
 }
 
 /// A book has fifteen lines at most, and fourteen in a random stream.

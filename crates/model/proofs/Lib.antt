@@ -13,9 +13,13 @@ pub mod FactorBounds
 pub mod Facts
 pub mod HalfYear
 pub mod Invariant
+pub mod Layouts
 pub mod Lengths
+pub mod Limit
 pub mod Lines
 pub mod Lists
+pub mod Longest
+pub mod LongestYear
 pub mod Near
 pub mod OldRow
 pub mod Passed
@@ -28,4 +32,5 @@ pub mod Sums
 pub mod Tail
 pub mod Totals
 pub mod Unpaid
+pub mod Widths
 pub mod YearRows

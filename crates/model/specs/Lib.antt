@@ -13,6 +13,7 @@ pub mod History
 pub mod Input
 pub mod Kind
 pub mod Letter
+pub mod Limit
 pub mod Near
 pub mod Number
 pub mod Pattern

@@ -17,9 +17,13 @@ use Rattle.model.specs.Call.{Call, declare, setRate, addPattern, closeYe
 use Rattle.model.specs.Field.{fields, field, letterIn}
 use Rattle.model.specs.Record.{Word, LINE, RATE, PATT, YEAR, SUM, OTHER, wordOf, fieldCount, firstNumber, allWritten, callFrom}
 
--- "1. Has the line at most 1,024 bytes?"
+-- F-3: "No accepted record can have more than 418 bytes, and one can have as many." (proofs/Longest.antt, proofs/LongestYear.antt)
+abbrev pub longest : ℕ
+longest = 418
+
+-- "1. Has the line at most 1,024 bytes?": F-3, "Make 418 the limit in question 1."
 abbrev pub isShort : List ℕ → Bool
-isShort line = leb (length line) 1024
+isShort line = leb (length line) longest
 
 -- "2. Is the first field, byte for byte, one of the four words?": F-2, "New records' words, here and below, join question 2's."
 abbrev pub hasWord : Word → Bool

@@ -15,7 +15,7 @@ use Rattle.ledger.specs.Answer.{answered}
 use Rattle.ledger.specs.Does.{Does}
 use Rattle.answer.specs.Text.{PutsWithRoom}
 use Rattle.pieces.specs.declared.answer_line.Answered.{Answered}
-use Rattle.pieces.specs.Progress.{Progress, ended}
+use Rattle.pieces.specs.Progress.{Progress, ended, keptBytes}
 use Rattle.pieces.specs.declared.line.OpenLine.{OpenLine}
 use Rattle.pieces.specs.Feed.{bytesOf, openLine, Answers}
 use Rattle.pieces.proofs.Cut.{ended-cut}
@@ -36,8 +36,8 @@ module _ (book : Book) (store : List ℕ) where
   abbrev before : Progress
   before = record { book = view book store; own = book; store = store; line = []; written = [] }
 
-  -- 1,025 bytes of a line are enough
-  pub answers-cut : (line out : List ℕ) (at : ℕ) (r : Answered) (laterStore laterOut : List ℕ) → Answers book store (take 1025 line) out at r laterStore laterOut → Answers book store line out at r laterStore laterOut
+  -- the bytes of a line that are kept are enough
+  pub answers-cut : (line out : List ℕ) (at : ℕ) (r : Answered) (laterStore laterOut : List ℕ) → Answers book store (take keptBytes line) out at r laterStore laterOut → Answers book store line out at r laterStore laterOut
   unfolding ended
   answers-cut line out at r laterStore laterOut a =
       let cut = ended-cut before line in
@@ -56,7 +56,7 @@ answers-open book store line n e out at r laterStore laterOut a =
     rw (← whole) a
 
 -- a line of two parts
-pub answers-joined : (book : Book) (store begun rest : List ℕ) (line : OpenLine) → line ≡ openLine (take 1025 (begun ++ rest))
+pub answers-joined : (book : Book) (store begun rest : List ℕ) (line : OpenLine) → line ≡ openLine (take keptBytes (begun ++ rest))
     → (out : List ℕ) (at : ℕ) (r : Answered) (laterStore laterOut : List ℕ) → Answers book store (bytesOf line) out at r laterStore laterOut → Answers book store (begun ++ rest) out at r laterStore laterOut
 answers-joined book store begun rest line joined out at r laterStore laterOut a =
-    answers-cut book store (begun ++ rest) out at r laterStore laterOut (rw (← (open-bytes line (take 1025 (begun ++ rest)) joined)) a)
+    answers-cut book store (begun ++ rest) out at r laterStore laterOut (rw (← (open-bytes line (take keptBytes (begun ++ rest)) joined)) a)

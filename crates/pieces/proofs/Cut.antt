@@ -1,4 +1,4 @@
--- Of a line, 1,025 bytes tell all: a longer one is refused by its length alone.
+-- Of a line, the bytes that are kept tell all: a longer one is refused by its length alone.
 -- Assumes nothing.
 use mathlib.Core.Logic.{⊎-elim}
 use mathlib.Core.List.{List, [], _∷_, _++_}
@@ -10,13 +10,13 @@ use native.Mathlib.Omega.{arith}
 use borrow.Author.Tests.{lt-leb}
 use lib.ListN.{length, take, length-take}
 use lib.Seq.{take-all}
-use Rattle.model.specs.Question.{firstNo}
+use Rattle.model.specs.Question.{longest, firstNo}
 use Rattle.model.specs.Answer.{text}
 use Rattle.model.specs.Step.{asBytes, questions, refuse}
 use Rattle.model.proofs.Steps.{first-is-length, step-is}
 use Rattle.ledger.specs.Answer.{oneMoreRefused}
 use Rattle.ledger.specs.Does.{bookSettled, storeSettled}
-use Rattle.pieces.specs.Progress.{Progress, ended}
+use Rattle.pieces.specs.Progress.{Progress, ended, keptBytes}
 
 pub take-join : {A : Type 0} (n : ℕ) (xs ys : List A) → take n (take n xs ++ ys) ≡ take n (xs ++ ys)
 take-join zero xs ys = refl
@@ -28,18 +28,18 @@ abbrev pub with-line : Progress → List ℕ → Progress
 with-line s line = record { book = s .book; own = s .own; store = s .store; line = line; written = s .written }
 
 -- a long line is refused
-ended-long : (s : Progress) (line : List ℕ) → 1024 < length line
+ended-long : (s : Progress) (line : List ℕ) → longest < length line
     → ended (with-line s line) ≡ record { book = refuse (s .book) 1 .book; own = oneMoreRefused (s .own); store = s .store; line = []; written = s .written ++ text (refuse (s .book) 1 .answer) }
 unfolding ended bookSettled storeSettled
 ended-long s line long =
-    let first : firstNo (questions (s .book) (asBytes line)) ≡ some 1 = first-is-length (s .book) line (lt-leb (length line) 1024 long) in
+    let first : firstNo (questions (s .book) (asBytes line)) ≡ some 1 = first-is-length (s .book) line (lt-leb (length line) longest long) in
     rw (step-is (s .book) (asBytes line) (some 1) first, first)
 
-pub ended-cut : (s : Progress) (line : List ℕ) → ended (with-line s (take 1025 line)) ≡ ended (with-line s line)
+pub ended-cut : (s : Progress) (line : List ℕ) → ended (with-line s (take keptBytes line)) ≡ ended (with-line s line)
 ended-cut s line =
     ⊎-elim
-    (λ (z : length line - 1025 ≡ 0). rw (take-all 1025 line (omega arith)))
-    (λ (p : 0 < length line - 1025).
-    let cut : 1024 < length (take 1025 line) = rw (length-take 1025 line) (omega arith) in
-    ended-long s (take 1025 line) cut ∙ sym (ended-long s line (omega arith)))
-    (eq-zero-or-pos (length line - 1025))
+    (λ (z : length line - keptBytes ≡ 0). rw (take-all keptBytes line (omega arith)))
+    (λ (p : 0 < length line - keptBytes).
+    let cut : longest < length (take keptBytes line) = rw (length-take keptBytes line) (omega arith) in
+    ended-long s (take keptBytes line) cut ∙ sym (ended-long s line (omega arith)))
+    (eq-zero-or-pos (length line - keptBytes))

@@ -19,7 +19,7 @@ use Rattle.pieces.specs.declared.line.OpenLine.{OpenLine}
 use Rattle.pieces.specs.declared.answer_line.Answered.{Answered}
 use Rattle.pieces.specs.declared.answer_lines.Lines.{Lines}
 use Rattle.pieces.specs.declared.feed.Run.{Run}
-use Rattle.pieces.specs.Progress.{Progress, ended, lengthened, takingAll, takenOf, atEnd}
+use Rattle.pieces.specs.Progress.{Progress, ended, lengthened, takingAll, takenOf, atEnd, keptBytes}
 use Rattle.pieces.specs.Feed.{bytesOf, openLine, before, progressOf, IsStart, Answers, FedTo, AnswersLines, AnswersWholeLines, canAnswer, Feeds, Closes, PutsDone}
 use Rattle.pieces.proofs.LineFound.{line-taken, line-counted}
 use Rattle.pieces.proofs.Joining.{same-front, front-length}
@@ -28,7 +28,7 @@ use Rattle.pieces.proofs.Pieces.{pieces-join}
 use Rattle.pieces.proofs.Written.{at-end-some}
 
 -- the lines of a piece, after a line that was begun before it
-module _ (book : Book) (store begun piece out : List ℕ) (kept : length begun ≤ 1025) where
+module _ (book : Book) (store begun piece out : List ℕ) (kept : length begun ≤ keptBytes) where
   abbrev at-first : Progress
   at-first = before book store begun
 
@@ -102,7 +102,7 @@ module _ (run : Run) (store piece out : List ℕ) (n : ℕ) (e : n ≡ length (b
     here : take (indexOf 10 rest) rest ≡ rest
     here = rw all (take-length rest)
 
-    line-short : length (s .line) ≤ 1025
+    line-short : length (s .line) ≤ keptBytes
     line-short = short _ _ _ _ _ _ _ _ _ _ (a .fed)
 
     rest-taken : takingAll s rest ≡ lengthened s rest
@@ -113,7 +113,7 @@ module _ (run : Run) (store piece out : List ℕ) (n : ℕ) (e : n ≡ length (b
         let split : piece ≡ take (r .at) piece ++ rest = sym (take-append-drop (r .at) piece) in
         rw (take-length piece) (ap (takingAll start) split ∙ pieces-join start (take (r .at) piece) rest ∙ rest-taken)
 
-    pub feeds-room : (longer : OpenLine) → longer ≡ openLine (take 1025 (bytes ++ take (taken - r .at) rest))
+    pub feeds-room : (longer : OpenLine) → longer ≡ openLine (take keptBytes (bytes ++ take (taken - r .at) rest))
         → Feeds run store piece out (record { run = record { book = r .book; line = longer }; taken = taken; put = r .put }) laterStore laterOut
     unfolding lengthened takenOf
     feeds-room longer l =
@@ -129,17 +129,17 @@ module _ (run : Run) (store piece out : List ℕ) (n : ℕ) (e : n ≡ length (b
         }
 
   -- or not: the bytes up to the last line's end are taken
-  pub feeds-full : (t : Bool) → t ≡ hasRoom laterOut (r .put) → t ≡ false → (taken : ℕ) → taken ≡ r .at → (kept : OpenLine) → kept ≡ openLine (take 1025 (bytes ++ take (taken - r .at) rest))
+  pub feeds-full : (t : Bool) → t ≡ hasRoom laterOut (r .put) → t ≡ false → (taken : ℕ) → taken ≡ r .at → (kept : OpenLine) → kept ≡ openLine (take keptBytes (bytes ++ take (taken - r .at) rest))
       → Feeds run store piece out (record { run = record { book = r .book; line = kept }; taken = taken; put = r .put }) laterStore laterOut
   feeds-full t told no-room taken et kept l =
       let full : hasRoom laterOut (r .put) ≡ false = sym told ∙ no-room in
       let none : taken - r .at ≡ 0 = omega (arith, et) in
-      let all-kept : length bytes ≤ 1025 = rw (length-take (r .begun) (run .line .bytes)) (omega (arith, a .fed .few, a .fed .kept)) in
+      let all-kept : length bytes ≤ keptBytes = rw (length-take (r .begun) (run .line .bytes)) (omega (arith, a .fed .few, a .fed .kept)) in
       let less : length out < length (s .written) + 320 = omega (arith, leb-false (r .put + 320) (length laterOut) full, a .fed .reached .puts .after-it, a .fed .same) in
       record {
         taken = rw (et, ← line) (sym (a .fed .left ∙ rw (none-taken (length out) s rest less) (omega arith)));
         reached = rw (et, ← line) (a .fed .reached);
-        unended = l ∙ rw (none, et, ← line, append-nil bytes, take-all 1025 bytes all-kept, still-open);
+        unended = l ∙ rw (none, et, ← line, append-nil bytes, take-all keptBytes bytes all-kept, still-open);
       }
 
 empty-list : (l : List ℕ) → length l ≡ 0 → l ≡ []
@@ -154,7 +154,7 @@ at-end-line : (s : Progress) → (length (s .line) ≡ 0 → ⊥) → atEnd s �
 at-end-line s nz = at-end-by s (s .line) refl nz
 
 -- before the first piece
-pub starts : (book : Book) (store : List ℕ) → book ≡ emptyBook → store ≡ emptyStore → IsStart (record { book = book; line = record { bytes = replicate 1025 0; count = 0 } }) store
+pub starts : (book : Book) (store : List ℕ) → book ≡ emptyBook → store ≡ emptyStore → IsStart (record { book = book; line = record { bytes = replicate keptBytes 0; count = 0 } }) store
 starts book store e l = record { book = e; line = refl; lent = l }
 
 -- a large buffer has room for a text

@@ -17,7 +17,7 @@ use Rattle.answer.specs.Text.{hasRoom, PutsWithRoom}
 use Rattle.answer.proofs.Joins.{joined}
 use Rattle.model.proofs.Lists.{true≢false}
 use Rattle.pieces.specs.declared.answer_line.Answered.{Answered}
-use Rattle.pieces.specs.Progress.{Progress, ended, lengthened, taking, takingAll, takenOf}
+use Rattle.pieces.specs.Progress.{Progress, ended, lengthened, taking, takingAll, takenOf, keptBytes}
 use Rattle.pieces.specs.Feed.{before, Answers, FedTo, AnswersWholeLines, canAnswer}
 use Rattle.pieces.proofs.Cut.{with-line, ended-cut}
 use Rattle.pieces.proofs.LineFound.{line-taken, line-counted, takes-one, same-room, found}
@@ -25,7 +25,7 @@ use Rattle.pieces.proofs.Joining.{front-length}
 use Rattle.pieces.proofs.Pieces.{pieces-join}
 
 -- before the first byte
-pub feed-start : (book : Book) (store begun piece out : List ℕ) → length begun ≤ 1025 → FedTo (before book store begun) begun piece out book (length begun) 0 0 store out
+pub feed-start : (book : Book) (store begun piece out : List ℕ) → length begun ≤ keptBytes → FedTo (before book store begun) begun piece out book (length begun) 0 0 store out
 unfolding takingAll placed
 feed-start book store begun piece out short =
     record {
@@ -54,7 +54,7 @@ module _ (start : Progress) (begun piece out : List ℕ) (book : Book) (count at
   abbrev rest : List ℕ
   rest = drop at piece
 
-  pub short : length (s .line) ≤ 1025
+  pub short : length (s .line) ≤ keptBytes
   short = rw (← (f .line), length-take count begun) (omega (arith, f .kept))
 
   pub count-exact : count ≡ length (take count begun)

@@ -12,6 +12,7 @@ use Rattle.answer.specs.Put.{placed, Puts}
 use Rattle.answer.proofs.Copying.{Copying, copy-start, copy-on, copy-end}
 use Rattle.answer.proofs.Joins.{joined}
 use Rattle.pieces.specs.declared.line.OpenLine.{OpenLine}
+use Rattle.pieces.specs.Progress.{keptBytes}
 use Rattle.pieces.specs.Feed.{bytesOf, openLine}
 
 -- as much of a text as has room: the bytes before place i are copied
@@ -86,16 +87,16 @@ module _ (n : ℕ) where
       let counted : count ≡ length (start ++ rest) = both .after-it ∙ none in
       rw (text, counted, parts)
 
-pub two-parts : (begun more : List ℕ) (middle : List ℕ) (first : ℕ) → Puts (zeros 1025) 0 (take (length (zeros 1025) - 0) begun) middle first → length middle ≡ 1025
-    → (bytes : List ℕ) (count : ℕ) → Puts middle first (take (length middle - first) more) bytes count → record { bytes = bytes; count = count } ≡ openLine (take 1025 (begun ++ more))
-two-parts = parts-in 1025
+pub two-parts : (begun more : List ℕ) (middle : List ℕ) (first : ℕ) → Puts (zeros keptBytes) 0 (take (length (zeros keptBytes) - 0) begun) middle first → length middle ≡ keptBytes
+    → (bytes : List ℕ) (count : ℕ) → Puts middle first (take (length middle - first) more) bytes count → record { bytes = bytes; count = count } ≡ openLine (take keptBytes (begun ++ more))
+two-parts = parts-in keptBytes
 
 -- the bytes of an open line are the line so far
 pub open-bytes : (line : OpenLine) (bytes : List ℕ) → line ≡ openLine bytes → bytesOf line ≡ bytes
-open-bytes line bytes e = rw e (take-at bytes (replicate (1025 - length bytes) 0) (length bytes) refl)
+open-bytes line bytes e = rw e (take-at bytes (replicate (keptBytes - length bytes) 0) (length bytes) refl)
 
 -- how many bytes a line so far has
-pub count-is : (line : OpenLine) (n : ℕ) → n ≡ min (line .count) 1025 → length (line .bytes) ≡ 1025 → n ≡ length (bytesOf line)
+pub count-is : (line : OpenLine) (n : ℕ) → n ≡ min (line .count) keptBytes → length (line .bytes) ≡ keptBytes → n ≡ length (bytesOf line)
 count-is line n e same = rw (length-take (line .count) (line .bytes)) (omega (arith, e, same))
 
 -- a front of a list, by its length
@@ -125,7 +126,7 @@ pub same-front : (l : List ℕ) (n : ℕ) → take (length (take n l)) l ≡ tak
 same-front l n = ap (λ (k : ℕ). take k l) (length-take n l) ∙ by-length l n
 
 -- a line so far is short
-pub begun-short : (n : ℕ) (bytes : List ℕ) → length bytes ≡ 1025 → length (take n bytes) ≤ 1025
+pub begun-short : (n : ℕ) (bytes : List ℕ) → length bytes ≡ keptBytes → length (take n bytes) ≤ keptBytes
 begun-short n bytes e = rw (length-take n bytes) (omega (arith, e))
 
 -- how many numbers an array in a struct has, as the logic holds it

@@ -10,17 +10,17 @@ use lib.Dec.{eqb}
 use lib.ListN.{length, take, drop, length-take}
 use lib.Seq.{take-all}
 use Rattle.bytes.specs.Bytes.{indexAfter, indexOf}
-use Rattle.pieces.specs.Progress.{Progress, lengthened, taking, takingAll, takenOf}
+use Rattle.pieces.specs.Progress.{Progress, lengthened, taking, takingAll, takenOf, keptBytes}
 use Rattle.pieces.proofs.Cut.{take-join}
 
 -- nothing more
-lengthened-none : (s : Progress) → length (s .line) ≤ 1025 → s ≡ lengthened s []
+lengthened-none : (s : Progress) → length (s .line) ≤ keptBytes → s ≡ lengthened s []
 unfolding lengthened
-lengthened-none s short = rw (append-nil (s .line), take-all 1025 (s .line) short)
+lengthened-none s short = rw (append-nil (s .line), take-all keptBytes (s .line) short)
 
 lengthened-twice : (s : Progress) (b : ℕ) (bytes : List ℕ) → lengthened (lengthened s (b ∷ [])) bytes ≡ lengthened s (b ∷ bytes)
 unfolding lengthened
-lengthened-twice s b bytes = rw (take-join 1025 (s .line ++ (b ∷ [])) bytes, append-assoc (s .line) (b ∷ []) bytes)
+lengthened-twice s b bytes = rw (take-join keptBytes (s .line ++ (b ∷ [])) bytes, append-assoc (s .line) (b ∷ []) bytes)
 
 goes-on : (s : Progress) (b : ℕ) → eqb b 10 ≡ false → taking s b ≡ lengthened s (b ∷ [])
 unfolding taking
@@ -28,11 +28,11 @@ goes-on s b e = rw e
 
 -- the bytes before the first byte 10 make the line longer
 abbrev Longer : List ℕ → Type 0
-Longer rest = (s : Progress) → length (s .line) ≤ 1025 → takingAll s (take (indexOf 10 rest) rest) ≡ lengthened s (take (indexOf 10 rest) rest)
+Longer rest = (s : Progress) → length (s .line) ≤ keptBytes → takingAll s (take (indexOf 10 rest) rest) ≡ lengthened s (take (indexOf 10 rest) rest)
 
-still-short : (s : Progress) (bytes : List ℕ) → length (lengthened s bytes .line) ≤ 1025
+still-short : (s : Progress) (bytes : List ℕ) → length (lengthened s bytes .line) ≤ keptBytes
 unfolding lengthened
-still-short s bytes = rw (length-take 1025 (s .line ++ bytes)) (omega arith)
+still-short s bytes = rw (length-take keptBytes (s .line ++ bytes)) (omega arith)
 
 longer-by : (b : ℕ) (rest : List ℕ) → Longer rest → (t : Bool) → eqb b 10 ≡ t → Longer (b ∷ rest)
 unfolding takingAll indexOf indexAfter
@@ -60,7 +60,7 @@ HasRoom size s = length (s .written) + 320 ≤ size
 
 abbrev Counts : ℕ → List ℕ → Type 0
 Counts size rest =
-    (s : Progress) → length (s .line) ≤ 1025 → HasRoom size s
+    (s : Progress) → length (s .line) ≤ keptBytes → HasRoom size s
     → takenOf size s rest ≡ indexOf 10 rest + takenOf size (lengthened s (take (indexOf 10 rest) rest)) (drop (indexOf 10 rest) rest)
 
 counts-by : (size b : ℕ) (rest : List ℕ) → Counts size rest → (t : Bool) → eqb b 10 ≡ t → Counts size (b ∷ rest)

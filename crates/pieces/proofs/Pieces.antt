@@ -12,7 +12,7 @@ use Rattle.model.specs.Answer.{doneText}
 use Rattle.model.specs.Step.{Request, asBytes}
 use Rattle.model.specs.Run.{after, output, recordsOf}
 use Rattle.model.proofs.Lines.{ahead, ahead-append, ahead-of-line, ahead-of-none}
-use Rattle.pieces.specs.Progress.{Progress, start, ended, lengthened, taking, takingAll, atEnd}
+use Rattle.pieces.specs.Progress.{Progress, start, ended, lengthened, taking, takingAll, atEnd, keptBytes}
 use Rattle.pieces.proofs.Cut.{take-join, with-line, ended-cut}
 
 -- a piece and the next one are one piece
@@ -40,9 +40,9 @@ ends-later s line requests last e = record { book = e .book; text = e .text ∙ 
 
 -- where `line` is the line so far
 abbrev Rest : Progress → List ℕ → List ℕ → Type 0
-Rest s line input = Ends s (map asBytes (ahead line (linesOf input))) (atEnd (takingAll (with-line s (take 1025 line)) input))
+Rest s line input = Ends s (map asBytes (ahead line (linesOf input))) (atEnd (takingAll (with-line s (take keptBytes line)) input))
 
-last-line : (s : Progress) (c : ℕ) (line : List ℕ) → atEnd (with-line s (take 1025 (c ∷ line))) ≡ ended (with-line s (c ∷ line))
+last-line : (s : Progress) (c : ℕ) (line : List ℕ) → atEnd (with-line s (take keptBytes (c ∷ line))) ≡ ended (with-line s (c ∷ line))
 unfolding atEnd
 last-line s c line = ended-cut s (c ∷ line)
 
@@ -59,7 +59,7 @@ rest-on s line b input rest true e =
     rw (e, ended-cut s line, ahead-of-line line (linesOf input))
     (ends-later s line (map asBytes (linesOf input)) _ (rest (ended (with-line s line)) []))
 rest-on s line b input rest false e =
-    rw (e, take-join 1025 line (b ∷ []))
+    rw (e, take-join keptBytes line (b ∷ []))
     (rw (ahead-append line (b ∷ []) (linesOf input)) at (rest s (line ++ (b ∷ []))))
 
 rest-is : (input : List ℕ) (s : Progress) (line : List ℕ) → Rest s line input

@@ -19,14 +19,14 @@ use Rattle.pieces.specs.declared.answer_line.Answered.{Answered}
 use Rattle.pieces.specs.declared.answer_lines.Lines.{Lines}
 use Rattle.pieces.specs.declared.feed.Run.{Run}
 use Rattle.pieces.specs.declared.feed.Fed.{Fed}
-use Rattle.pieces.specs.Progress.{Progress, start, atEnd, takingAll, takenOf}
+use Rattle.pieces.specs.Progress.{Progress, start, keptBytes, atEnd, takingAll, takenOf}
 
 -- the line so far, and the open line that it is: zeros after it
 abbrev pub bytesOf : OpenLine → List ℕ
 bytesOf line = take (line .count) (line .bytes)
 
 abbrev pub openLine : List ℕ → OpenLine
-openLine bytes = record { bytes = bytes ++ replicate (1025 - length bytes) 0; count = length bytes }
+openLine bytes = record { bytes = bytes ++ replicate (keptBytes - length bytes) 0; count = length bytes }
 
 -- how far a run has come before a piece; what was written is out of its hands
 abbrev pub before : Book → List ℕ → List ℕ → Progress
@@ -65,7 +65,7 @@ pub record Reaches (book : Book) (store : List ℕ) (out : List ℕ) (put : ℕ)
 
 -- the first `at` bytes of a piece are taken, and of the line that was begun before it `count` bytes still wait for its end
 pub record FedTo (start : Progress) (begun piece out : List ℕ) (book : Book) (count at put : ℕ) (store laterOut : List ℕ) : Type 0 where
-  pub kept : length begun ≤ 1025
+  pub kept : length begun ≤ keptBytes
   pub inside : at ≤ length piece
   pub few : count ≤ length begun
   pub same : length laterOut ≡ length out

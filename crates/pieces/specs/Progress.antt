@@ -6,6 +6,7 @@ use lib.Dec.{eqb, leb}
 use lib.ListN.{length, take}
 use Rattle.model.specs.Basics.{if_then_else_}
 use Rattle.model.specs.Book.{Book, empty}
+use Rattle.model.specs.Question.{longest}
 use Rattle.model.specs.Answer.{text}
 use Rattle.model.specs.Step.{asBytes, step}
 use Rattle.state.specs.declared.book.Book as code
@@ -36,9 +37,13 @@ ended s =
       written = s .written ++ text (step (s .book) request .answer);
     }
 
--- the line goes on; 1,025 bytes of it are enough to refuse it
+-- of a line that is too long, so many bytes are enough to refuse it
+abbrev pub keptBytes : ℕ
+keptBytes = suc longest
+
+-- the line goes on, and no more of it is kept
 unfoldable pub lengthened : Progress → List ℕ → Progress
-lengthened s bytes = record { book = s .book; own = s .own; store = s .store; line = take 1025 (s .line ++ bytes); written = s .written }
+lengthened s bytes = record { book = s .book; own = s .own; store = s .store; line = take keptBytes (s .line ++ bytes); written = s .written }
 
 -- "Lines end with byte 10, which is not counted in the line"
 unfoldable pub taking : Progress → ℕ → Progress

@@ -9,6 +9,7 @@ use state::store::Store;
 ghost use mathlib.Core.Path.{_≡_};
 ghost use Prim.Native.Nat.{_≤_};
 ghost use lib.ListN.{length};
+ghost use Rattle.pieces.specs.Progress.{keptBytes};
 ghost use Rattle.pieces.specs.Feed.{AnswersLines, AnswersWholeLines, canAnswer};
 
 // The later book; how many bytes of the line before the piece still wait for its end; the place after the last line; the place after the texts.
@@ -27,7 +28,7 @@ pub fn answer_lines(
     piece: &[u8],
     out: &mut [u8],
 ) -> Lines
-    requires { ⌜ length (now begun) ≤ 1025 ⌝ }
+    requires { ⌜ length (now begun) ≤ keptBytes ⌝ }
     ensures { λ r. ⌜ AnswersLines book (now (store .entry)) (now (begun .entry)) (now (piece .entry)) (now (out .entry)) r (now (store .exit)) (now (out .exit)) ⌝ }
 {
     if begun.len() == 0 {

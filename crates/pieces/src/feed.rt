@@ -2,6 +2,7 @@
 use crate::answer_line::Answered;
 use crate::answer_line::answer_open;
 use crate::answer_lines::answer_lines;
+use crate::line::KEPT;
 use crate::line::OpenLine;
 use crate::line::count;
 use crate::line::join;
@@ -32,7 +33,7 @@ pub fn start(store: &mut Store) -> Run
     Run {
         book: empty(store),
         line: OpenLine {
-            bytes: [0; 1025],
+            bytes: [0; KEPT],
             count: 0,
         },
     }

@@ -1,25 +1,27 @@
 // The line so far, where a piece of the input ends within a line.
+use record::read::LONGEST;
 ghost use mathlib.Core.List.{_++_};
 ghost use mathlib.Core.Path.{_≡_};
 ghost use Prim.Native.Nat.{_-_, _≤_, min};
 ghost use lib.ListN.{length, take};
 ghost use Rattle.answer.specs.Put.{Puts};
+ghost use Rattle.pieces.specs.Progress.{keptBytes};
 ghost use Rattle.pieces.specs.Feed.{bytesOf, openLine};
 
-// A line longer than 1,024 bytes is refused by its length alone, so no more than 1,025 of its bytes are kept.
-pub const KEPT: usize = 1025;
+// A line that is longer than the longest record is refused by its length alone, so of its bytes one more than that is kept, and no others.
+pub const KEPT: usize = LONGEST + 1;
 
 // The first `count` of `bytes`. The functions here leave zeros after them.
 pub struct OpenLine {
-    pub bytes: [u8; 1025],
+    pub bytes: [u8; KEPT],
     pub count: usize,
 }
 
 // The line with more bytes: as many of them as are kept.
 pub fn join(begun: &[u8], more: &[u8]) -> OpenLine
-    ensures { λ r. ⌜ r ≡ openLine (take 1025 (now (begun .entry) ++ now (more .entry))) ⌝ }
+    ensures { λ r. ⌜ r ≡ openLine (take keptBytes (now (begun .entry) ++ now (more .entry))) ⌝ }
 {
-    let mut bytes = [0u8; 1025];
+    let mut bytes = [0u8; KEPT];
     let first = put_some(&mut bytes, 0, begun);
     let count = put_some(&mut bytes, first, more);
     OpenLine { bytes, count }

@@ -5,14 +5,14 @@ use mathlib.Core.Path.{_≡_, refl, sym, _∙_}
 use mathlib.Core.List.{List, [], _∷_}
 use Prim.Native.Nat.{ℕ, _≤_, _<_}
 use native.Mathlib.Omega.{arith}
-use borrow.Author.Tests.{eq-eqb, ne-eqb, le-leb, lt-leb}
-use lib.Dec.{eqb}
+use borrow.Author.Tests.{eq-eqb, ne-eqb, le-leb, lt-leb, leb-true}
+use lib.Dec.{eqb, leb}
 use lib.ListN.{length, take, drop}
 use Rattle.model.specs.Basics.{if_then_else_, given}
 use Rattle.model.specs.Letter.{tenYear, twoYear, covered}
 use Rattle.model.specs.Field.{fields, field, letterIn}
 use Rattle.model.specs.Record.{Word, LINE, RATE, PATT, YEAR, SUM, OTHER, wordOf, fieldCount, firstNumber, allWritten, callFrom}
-use Rattle.model.specs.Question.{isShort, hasWord, hasLetter, hasFields, isWellWritten, isWithinLimits, lineQuestions, firstNo}
+use Rattle.model.specs.Question.{longest, isShort, hasWord, hasLetter, hasFields, isWellWritten, isWithinLimits, lineQuestions, firstNo}
 use Rattle.model.proofs.Lists.{and-left, and-right}
 use Rattle.refusal.specs.declared.Refusal.the-variants.{TooLong, UnknownWord, UncoveredLetter, WrongCount, BadlyWritten}
 use Rattle.refusal.specs.Number.{refusalOf}
@@ -146,11 +146,12 @@ read-from s minus sizes =
     let call = callFrom word (fields s) in
     table (isShort s) (hasWord word) (hasLetter call) (hasFields word (fields s)) (isWellWritten word (fields s)) (isWithinLimits call) (fields s) minus (withNumbers hasMinus word (fields s) minus) sizes (withNumbers capped word (fields s) sizes)
 
+-- the code's limit is the longest: no more where a line is read, and no less where it is not
 module _ (s : List ℕ) (minus : List Bool) (sizes : List ℕ) (q : Request) where
-  pub read-is : (word : Word) (f : List ℕ) (ms : List Bool) (ns : List ℕ) → length s ≤ 1024 → f ≡ field 0 (fields s) → word ≡ wordOf f → Gives (fromWord word (fields s) minus sizes) q ms ns → Gives (readOf s minus sizes) q ms ns
-  read-is word f ms ns le ef ew h =
+  pub read-is : (limit : ℕ) (word : Word) (f : List ℕ) (ms : List Bool) (ns : List ℕ) → length s ≤ limit → leb limit longest ≡ true → f ≡ field 0 (fields s) → word ≡ wordOf f → Gives (fromWord word (fields s) minus sizes) q ms ns → Gives (readOf s minus sizes) q ms ns
+  read-is limit word f ms ns le low ef ew h =
       let w : word ≡ wordOf (field 0 (fields s)) = rw ef at ew in
-      rw (read-from s minus sizes, le-leb (length s) 1024 le) (rw w at h)
+      rw (read-from s minus sizes, le-leb (length s) longest (omega (arith, leb-true limit longest low))) (rw w at h)
 
-  pub read-not : 1024 < length s → q ≡ refusedFor TooLong → Gives (readOf s minus sizes) q minus sizes
-  read-not lt eq = rw (read-from s minus sizes, lt-leb (length s) 1024 lt) record { request = eq; signs = refl; values = refl }
+  pub read-not : (limit : ℕ) → limit < length s → leb longest limit ≡ true → q ≡ refusedFor TooLong → Gives (readOf s minus sizes) q minus sizes
+  read-not limit lt high eq = rw (read-from s minus sizes, lt-leb (length s) longest (omega (arith, leb-true longest limit high))) record { request = eq; signs = refl; values = refl }

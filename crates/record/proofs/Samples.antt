@@ -3,7 +3,7 @@
 use mathlib.Core.Bool.{true, false}
 use mathlib.Core.Path.{_≡_, refl}
 use mathlib.Core.List.{List, [], _∷_, _++_, map}
-use Prim.Native.Nat.{ℕ}
+use Prim.Native.Nat.{ℕ, suc}
 use lib.ListN.{replicate}
 use lib.Seq.{sets}
 use Rattle.model.specs.Basics.{bytes}
@@ -11,7 +11,7 @@ use Rattle.model.specs.Letter.{tenYear, twoYear, ages}
 use Rattle.model.specs.Field.{fields}
 use Rattle.model.specs.Number.{natural, isPlain, isWritten}
 use Rattle.model.specs.Record.{wordOf, allWritten, callFrom}
-use Rattle.model.specs.Question.{lineQuestions}
+use Rattle.model.specs.Question.{longest, lineQuestions}
 use Rattle.model.specs.Sample.{months}
 use Rattle.refusal.specs.declared.Refusal.the-variants.{TooLong, UnknownWord, UncoveredLetter, WrongCount, BadlyWritten}
 use Rattle.refusal.specs.Number.{refusalOf}
@@ -38,8 +38,8 @@ samples =
     ∷ (bytes "YEAR\tJ\t2016\t-7\t0\t0\t40\t10\t0\t0\t0\t10000000000", asks CloseYear 74, among 2 (2016 ∷ 7 ∷ 0 ∷ 0 ∷ 40 ∷ 10 ∷ 0 ∷ 0 ∷ 0 ∷ 10000000000 ∷ []))
     ∷ (bytes "SUM\tJ", asks Totals 74, among 2 [])
     ∷ (bytes "LINE\tJ\t99999999999999999999999999999999", asks Declare 74, among 2 (1000000000000 ∷ []))
-    ∷ (replicate 1025 65, refusedFor TooLong, among 2 [])
-    ∷ (replicate 1024 65, refusedFor UnknownWord, among 2 [])
+    ∷ (replicate (suc longest) 65, refusedFor TooLong, among 2 [])
+    ∷ (replicate longest 65, refusedFor UnknownWord, among 2 [])
     ∷ ([], refusedFor UnknownWord, among 2 [])
     ∷ (bytes "PATT", refusedFor UncoveredLetter, among 2 [])
     ∷ (bytes "SUM\tM", refusedFor UncoveredLetter, among 2 [])

@@ -20,6 +20,9 @@ ghost use Rattle.form.specs.Word.{named};
 ghost use Rattle.record.specs.Request.{refusedFor, askedOf, readOf, Gives};
 ghost use Rattle.record.specs.Read.{fromWord, fromLetter, fromCount, Lettered};
 
+// F-3: "Make 418 the limit in question 1."
+pub const LONGEST: usize = 418;
+
 // A refusal and nothing else.
 fn refused(refusal: Refusal) -> Request
     ensures { λ r. ⌜ r ≡ refusedFor refusal ⌝ }
@@ -91,11 +94,11 @@ fn ask_word(line: &[u8], word: Word, minus: &mut [bool; 62], sizes: &mut [u64; 6
     refused(Refusal::UnknownWord)
 }
 
-// "1. Has the line at most 1,024 bytes?", and on. The sign and the size of each number go to its field's place of the lent lists.
+// "1. Has the line at most 1,024 bytes?" (F-3: "Make 418 the limit in question 1."), and on. The sign and the size of each number go to its field's place of the lent lists.
 pub fn read(line: &[u8], minus: &mut [bool; 62], sizes: &mut [u64; 62]) -> Request
     ensures { λ r. ⌜ Gives (readOf (now (line .entry)) (now (minus .entry)) (now (sizes .entry))) r (now (minus .exit)) (now (sizes .exit)) ⌝ }
 {
-    if line.len() <= 1024 {
+    if line.len() <= LONGEST {
         let word = word_of(first(line));
         return ask_word(line, word, minus, sizes);
     }

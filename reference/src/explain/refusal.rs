@@ -10,7 +10,7 @@ use super::report::{paragraph, Block};
 use super::shown::thousands;
 use crate::book::Book;
 use crate::question::Question;
-use crate::record::{LONGEST_LINE, TAB};
+use crate::record::{read_within, LONGEST_LINE, TAB};
 
 /// At most so many places are shown.
 const MOST_PLACES: usize = 10;
@@ -84,7 +84,7 @@ fn in_words(question: Question) -> String {
 
 fn fault(question: Question, refused: &Refused) -> Fault {
     match question {
-        Question::LineLength => line_length(refused),
+        Question::LineLength => line_length(refused, later_fault(refused)),
         Question::Word => first_word(refused),
         Question::CoveredLetter => covered_letter(refused),
         Question::FieldCount => field_count(refused),
@@ -98,6 +98,13 @@ fn fault(question: Question, refused: &Refused) -> Fault {
         Question::NoRatioFalls => falling_ratios(refused),
         Question::PatternKept => rows_without_pattern(refused),
     }
+}
+
+/// "No accepted record can have more than 418 bytes": a longer line has a "no"
+/// to a later question too, which shows what is too much.
+fn later_fault(refused: &Refused) -> Option<(Question, Fault)> {
+    let later = read_within(refused.line, refused.line.len()).err()?;
+    Some((later, fault(later, refused)))
 }
 
 pub fn blocks(question: Question, refused: &Refused) -> Vec<Block> {

@@ -6,6 +6,7 @@ use super::record_names::{count_of_fields, number_fields, NumberField, WORDS};
 use super::refusal::{Fault, Refused};
 use super::shown::{counted, quoted, thousands, WINDOWS_LINE_ENDS};
 use crate::kinds::{Letter, TEN_YEAR_LETTERS, TWO_YEAR_LETTERS};
+use crate::question::Question;
 use crate::record::LONGEST_LINE;
 
 /// The words, if the cause shows.
@@ -13,29 +14,41 @@ fn hint(shows: bool, words: impl Into<String>) -> Option<String> {
     shows.then(|| words.into())
 }
 
-/// Question 1.
-pub fn line_length(refused: &Refused) -> Fault {
+/// Question 1, with the later question that has a "no" too.
+pub fn line_length(refused: &Refused, later: Option<(Question, Fault)>) -> Fault {
     let line = refused.line;
-    let place = format!(
+    let mut places = vec![format!(
         "the line has {} bytes, and {} are allowed",
         thousands(line.len()),
         thousands(LONGEST_LINE)
-    );
+    )];
     let words: usize = WORDS.iter().map(|word| times_in(line, word)).sum();
     let inner_return = line[..line.len().saturating_sub(1)].contains(&b'\r');
-    let empty = empty_at_end(&refused.fields);
-    let hints = [
+    let own_hints = [
         hint(words > 1, "more than one record stands in the line"),
         hint(
             inner_return,
             "carriage returns stand in it: the lines may end in these",
         ),
-        hint(
-            empty > 0,
-            format!("it ends in {}", counted(empty, "empty field")),
-        ),
     ];
-    Fault::at(place, hints.into_iter().flatten().collect())
+    let mut hints: Vec<String> = own_hints.into_iter().flatten().collect();
+    if let Some((question, fault)) = later {
+        places.extend(first_place(question, &fault));
+        hints.extend(fault.hints);
+    }
+    Fault { places, hints }
+}
+
+/// The first place where a later question has a "no", and how many more there
+/// are.
+fn first_place(question: Question, fault: &Fault) -> Option<String> {
+    let number = question.number();
+    let first = fault.places.first()?;
+    let place = format!("question {number} would refuse it too: {first}");
+    Some(match fault.places.len() - 1 {
+        0 => place,
+        more => format!("{place}; and {}", counted(more, "more place")),
+    })
 }
 
 /// How often a word stands in a line.

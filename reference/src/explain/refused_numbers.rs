@@ -29,12 +29,29 @@ pub fn badly_written(refused: &Refused) -> Fault {
         format!("{}: {}: {faults}", number.described(), quoted(field))
     };
     let windows = wrong.iter().any(|(_, field)| field.ends_with(b"\r"));
-    let hint = || WINDOWS_LINE_ENDS.to_string();
+    let point = wrong.iter().find(|(_, field)| field.contains(&b'.'));
+    let hints = [
+        windows.then_some(WINDOWS_LINE_ENDS),
+        point.and_then(|(number, _)| hint_of_point(number.kind)),
+    ];
     Fault {
         places: wrong.iter().map(place).collect(),
-        hints: Vec::from_iter(windows.then(hint)),
+        hints: hints.into_iter().flatten().map(str::to_string).collect(),
     }
 }
+
+/// In what a number without a point is given.
+fn hint_of_point(kind: NumberKind) -> Option<&'static str> {
+    match kind {
+        NumberKind::Year => None,
+        NumberKind::Rate => Some(RATES_ARE_IN),
+        NumberKind::Opening | NumberKind::Amount | NumberKind::PaidInYear => {
+            Some("money is in whole thousands of dollars")
+        }
+    }
+}
+
+const RATES_ARE_IN: &str = "rates are in hundredths of a percent: 148 is 1.48 percent";
 
 /// Bytes that people write in numbers.
 const USUAL_BYTES: [(u8, &str); 11] = [
@@ -138,7 +155,7 @@ fn hint_of_limit(number: i128, kind: NumberKind) -> &'static str {
     match kind {
         NumberKind::Year if number < 100 => "a year is written with four digits",
         NumberKind::Year => "",
-        NumberKind::Rate => "rates are in hundredths of a percent: 148 is 1.48 percent",
+        NumberKind::Rate => RATES_ARE_IN,
         NumberKind::Opening | NumberKind::Amount | NumberKind::PaidInYear => {
             "money is in thousands of dollars: perhaps these are dollars"
         }

@@ -4,6 +4,7 @@
 mod bytes;
 mod halves;
 mod lines;
+mod longest;
 mod numbers;
 mod patterns;
 mod questions;
@@ -33,7 +34,7 @@ pub fn edges() -> Vec<Edge> {
     edges.extend(halves::edges());
     edges.extend(tails::edges());
     edges.extend(totals::edges());
-    edges.push(edge("LINE T 7", "LINE T 7"));
+    edges.extend(longest::edges());
     edges
 }
 

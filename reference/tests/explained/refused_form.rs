@@ -5,8 +5,8 @@ use crate::{check, check_record, last_part};
 
 #[test]
 fn question_1_has_the_length() {
-    let bytes = "the line has 1,025 bytes, and 1,024 are allowed";
-    check(&[], &[b'x'; 1_025], 1, &[bytes]);
+    let bytes = "the line has 419 bytes, and 418 are allowed";
+    check(&[], &[b'x'; 419], 1, &[bytes, "a header row"]);
     let two = b"LINE\tA\t0 ".repeat(120);
     check(
         &[],
@@ -16,9 +16,38 @@ fn question_1_has_the_length() {
     );
     let mut padded = line("LINE A 0");
     padded.resize(1_100, b'\t');
-    check(&[], &padded, 1, &["it ends in 1,092 empty fields"]);
+    let count = "question 4 would refuse it too: there are 1,095 fields, and a LINE has 3";
+    check(
+        &[],
+        &padded,
+        1,
+        &[
+            count,
+            "the last 1,092 fields are empty: tabs or empty columns",
+        ],
+    );
     let returns = b"LINE\tA\t0\r".repeat(120);
     check(&[], &returns, 1, &["carriage returns stand in it"]);
+}
+
+/// The longest record has 418 bytes, so something in a longer one is wrong.
+#[test]
+fn question_1_has_what_a_later_question_would_say() {
+    let year = |number: &str| {
+        let row = format!("{number} {number} 0");
+        format!("YEAR A 2015 {}", repeated(&row, 11))
+    };
+    let zeros = "question 5 would refuse it too: field 4 (column D), paid of age 1: \
+        '00000000000000000001': a leading zero; and 21 more places";
+    let numbers = "00000000000000000001";
+    check_record(&[], &year(numbers), 1, &["495 bytes", zeros]);
+    let dollars = "question 6 would refuse it too: field 4 (column D), paid of age 1: \
+        25,000,000,000,000,000, and";
+    let numbers = "25000000000000000";
+    let hint = "perhaps these are dollars";
+    check_record(&[], &year(numbers), 1, &["429 bytes", dollars, hint]);
+    let wide: Vec<u8> = rate(2015, 2_100).bytes().flat_map(|b| [b, 0]).collect();
+    check(&[], &wide, 1, &["618 bytes", "saved as UTF-16"]);
 }
 
 #[test]
@@ -127,7 +156,7 @@ fn pattern_with(field: &[u8]) -> Vec<u8> {
 
 #[test]
 fn question_5_has_the_field_and_what_is_wrong() {
-    let cases: [(&[u8], &str); 17] = [
+    let cases: [(&[u8], &str); 18] = [
         (b"100\r", "'100\\r': a carriage return"),
         (b"100\r", "the file has Windows line ends"),
         (b"1,000", "'1,000': a comma"),
@@ -139,6 +168,7 @@ fn question_5_has_the_field_and_what_is_wrong() {
         ),
         (b"\"100\"", "'\"100\"': quotes"),
         (b"1.5", "'1.5': a point"),
+        (b"1.5", "money is in whole thousands of dollars"),
         (b"$5", "'$5': a dollar sign"),
         (b"5%", "'5%': a percent sign"),
         (b"(5)", "'(5)': brackets"),
@@ -192,12 +222,12 @@ fn question_6_has_the_value_and_its_limits() {
     let month = "field 62 (column BJ), rate of month 60: 2,501, and 0 to 2,500 is allowed";
     let last = format!("RATE 2015 {} 2501", repeated("5", 59));
     check_record(&[], &last, 6, &[month, "hundredths of a percent"]);
-    let many = format!("LINE J {}", "9".repeat(500));
+    let many = format!("LINE J {}", "9".repeat(400));
     check_record(
         &[],
         &many,
         6,
-        &["'999999999999999999999999999999' .. (500 bytes)"],
+        &["'999999999999999999999999999999' .. (400 bytes)"],
     );
 }
 

@@ -2,7 +2,8 @@
 
 use crate::letter::Letter;
 
-const LONGEST_LINE: usize = 1_024;
+/// "Make 418 the limit in question 1."
+const LONGEST_LINE: usize = 418;
 
 const TAB: u8 = 9;
 
@@ -70,8 +71,8 @@ impl<'a> Reader<'a> {
     }
 
     /// Goes to the end of a refused line and gives the number of its refusal.
-    /// A line past 1,024 bytes is always refused, since the longest record
-    /// with numbers within their limits is shorter.
+    /// A line past the limit always comes here: "No accepted record can have
+    /// more than 418 bytes".
     pub fn skip_line(&mut self, question: u8) -> u8 {
         let to_end = self.rest.iter().position(|byte| *byte == LINE_END);
         self.rest = &self.rest[to_end.unwrap_or(self.rest.len())..];

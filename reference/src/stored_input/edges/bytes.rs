@@ -1,5 +1,5 @@
-//! Every byte as a line, as a letter and inside a number; lines about 1,024
-//! bytes long. The book stays empty.
+//! Every byte as a line, as a letter and inside a number; lines as long as a
+//! record may be, and longer. The book stays empty.
 
 use super::{edge_of_bytes, Edge};
 use crate::input_text::line;
@@ -54,13 +54,14 @@ fn of_byte(byte: u8) -> Vec<Edge> {
     edges
 }
 
-/// A line filled to 1,023 and 1,024 bytes gets its number, at 1,025 a 1.
+/// A line filled to 418 bytes gets its number, and a longer one a 1, whether it
+/// is past the limit of document 01 or not.
 pub fn about_the_longest(start: &str, filler: u8, number: &str) -> Vec<Edge> {
     let lengths = [
-        (1_023, number),
-        (1_024, number),
+        (418, number),
+        (419, "NO 1"),
+        (1_024, "NO 1"),
         (1_025, "NO 1"),
-        (1_026, "NO 1"),
     ];
     let filled = lengths.map(|(length, answer)| {
         let mut line = line(start);

@@ -3,6 +3,7 @@
 
 use super::{edge, Edge};
 use crate::input_text::repeated;
+use crate::record::LONGEST_LINE;
 
 /// Not well written, wherever they stand.
 const BADLY_WRITTEN: [&str; 16] = [
@@ -33,9 +34,10 @@ pub fn edges() -> Vec<Edge> {
         for number in TOO_LARGE {
             edges.push(edge(&with(&record, place, number), "NO 6"));
         }
-        for number in ["9".repeat(500), format!("1{}", "0".repeat(499))] {
+        let digits = room(&record, place);
+        for number in ["9".repeat(digits), format!("1{}", "0".repeat(digits - 1))] {
             edges.push(edge(&with(&record, place, &number), "NO 6"));
-            let leading_zero = with(&record, place, &format!("0{number}"));
+            let leading_zero = with(&record, place, &format!("0{}", &number[1..]));
             edges.push(edge(&leading_zero, "NO 5"));
         }
         edges.extend(with_minus(&record, place, minus_allowed));
@@ -75,7 +77,7 @@ fn places() -> Vec<Place> {
 fn with_minus(record: &str, place: usize, allowed: bool) -> Vec<Edge> {
     let past_limits = if allowed { "NO 6" } else { "NO 5" };
     let within_limits = if allowed { "NO 10" } else { "NO 5" };
-    let nines = format!("-{}", "9".repeat(400));
+    let nines = format!("-{}", "9".repeat(room(record, place) - 1));
     vec![
         edge(&with(record, place, "-1"), within_limits),
         edge(&with(record, place, "-10000000000"), within_limits),
@@ -83,6 +85,12 @@ fn with_minus(record: &str, place: usize, allowed: bool) -> Vec<Edge> {
         edge(&with(record, place, "-18446744073709551616"), past_limits),
         edge(&with(record, place, &nines), past_limits),
     ]
+}
+
+/// The bytes of the longest field that may stand at a place: the line is then as
+/// long as question 1 lets through.
+fn room(record: &str, place: usize) -> usize {
+    LONGEST_LINE - with(record, place, "").len()
 }
 
 /// The record with another field at a place.

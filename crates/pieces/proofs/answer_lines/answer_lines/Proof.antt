@@ -30,7 +30,7 @@ add-answer-whole-lines : tie.Need-add-answer-whole-lines
 add-answer-whole-lines c = search (needs, ends-inside)
 
 answer-whole-lines-requires-2 : tie.Need-answer-whole-lines-requires-2
-answer-whole-lines-requires-2 c κs = search next-inside
+answer-whole-lines-requires-2 c κs = search (next-inside, needs, ends-inside)
 
 same-length-2 : tie.Need-same-length-2
 same-length-2 c = search needs

@@ -3,6 +3,7 @@ use mathlib.Core.Logic.{⊎-elim}
 use mathlib.Core.Path.{_≡_}
 use lib.ListN.{length}
 use borrow.Author.Needs.{needs}
+use Rattle.pieces.specs.Progress.{keptBytes}
 use Rattle.pieces.proofs.FeedEnds.{begun-fits, begun-exact, feeds-room, feeds-full}
 use Rattle.pieces.proofs.Joining.{count-fits, count-exact, begun-short, length-mapped}
 use Rattle.pieces.proofs.feed.feed.Statement.{statement}
@@ -20,7 +21,7 @@ slice-aggregate-answer-lines c = search count-exact
 answer-lines-requires : tie.Need-answer-lines-requires
 answer-lines-requires c κs =
     let start = c .before .before .before .before .before .before .before in
-    let size : length (start .args .run .line .bytes) ≡ 1025 = search (length-mapped, start .good .0) in
+    let size : length (start .args .run .line .bytes) ≡ keptBytes = search (length-mapped, start .good .0) in
     search (begun-short, size)
 
 has-room-requires : tie.Need-has-room-requires

@@ -2,6 +2,7 @@
 use borrow.Author.Needs.{needs}
 use mathlib.Core.Path.{_≡_}
 use lib.ListN.{length}
+use Rattle.pieces.specs.Progress.{keptBytes}
 use Rattle.pieces.proofs.Joining.{count-is, length-mapped}
 use Rattle.pieces.proofs.line.count.Statement.{statement}
 use Rattle.pieces.proofs.line.count.Tie as tie
@@ -12,7 +13,7 @@ least-requires c κs = search needs
 returns : tie.Need-returns
 returns c =
     let line = c .before .args .line in
-    let same : length (line .bytes) ≡ 1025 = search (length-mapped, c .before .good .0) in
+    let same : length (line .bytes) ≡ keptBytes = search (length-mapped, c .before .good .0) in
     count-is line (c .least .result) (c .least .ensures) same
 
 pub count-spec : {M : Type 1} → statement M
