@@ -42,8 +42,7 @@ pub record Layout : Type 0 where
   pub group : List FieldKind
   pub times : ℕ
 
--- "LINE, letter, opening"; "RATE, year, sixty rates"; "PATT, letter, year, then paid and incurred an age"
--- "YEAR, letter, year, then paid, unpaid, tabular for each age, prior row last"; "A record SUM with a letter"
+-- the kinds of the fields that a record has by specs/Record.antt: a table for the bound alone, which `laid` (Longest.antt) ties to the questions
 abbrev pub layout : Word → ℕ → Layout
 layout LINE byte = record { front = word ∷ letter ∷ opening ∷ []; group = []; times = 0 }
 layout RATE byte = record { front = word ∷ year ∷ []; group = rate ∷ []; times = 60 }
