@@ -7,9 +7,15 @@ use crate::kinds::{Letter, HIGHEST_AMOUNT, HIGHEST_OPENING, HIGHEST_RATE};
 use crate::pattern::{cumulative_ratio, CumulativeRow};
 use crate::random::Random;
 use crate::rate::MONTHS;
+use crate::register_record::short_rate_record;
 
 /// The fields of a record.
 pub type Fields = Vec<String>;
+
+/// Fields parted by one tab.
+pub fn line_of(fields: Fields) -> Vec<u8> {
+    fields.join("\t").into_bytes()
+}
 
 /// The next record for a line: LINE, then for each year a RATE if it is still
 /// to be given, a PATT and a YEAR. Before the first YEAR there may be several
@@ -23,7 +29,7 @@ pub fn next_record(
     let Some(line) = book.lines.get(&letter) else {
         return Some(line_record(random, letter));
     };
-    let next_year = next_pattern_year(random, line, years);
+    let next_year = next_pattern_year(random, book, line, years);
     match line.last_pattern_year() {
         Some(year) if line.takes_year(year) => {
             let close = line.last_closing.is_some() || random.once_in(4);
@@ -36,17 +42,20 @@ pub fn next_record(
     }
 }
 
-/// The year of the line's next pattern, at random for the first.
+/// The year of the line's next pattern, at random for the first; often one whose
+/// months the register has.
 fn next_pattern_year(
     random: &mut Random,
+    book: &Book,
     line: &DeclaredLine,
     years: &RangeInclusive<u64>,
 ) -> Option<u64> {
     let (first, last) = (*years.start(), *years.end());
     match line.last_pattern_year() {
-        None => Some(match random.below(4) {
+        None => Some(match random.below(5) {
             0 => first,
             1 => random.between(first, last),
+            2 => first_complete_year(book, years).unwrap_or(first),
             _ => random.between(first, first + 20),
         }),
         Some(year) if year < last => Some(year + 1),
@@ -54,12 +63,26 @@ fn next_pattern_year(
     }
 }
 
+/// The first of the years whose months the register has, if there is one.
+fn first_complete_year(book: &Book, years: &RangeInclusive<u64>) -> Option<u64> {
+    let mut years = years.clone();
+    years.find(|year| book.register.lacking(*year).is_empty())
+}
+
 fn rate_or_pattern(random: &mut Random, book: &Book, letter: Letter, year: u64) -> Fields {
     if book.rates.contains_key(&year) {
         pattern_record(random, letter, year)
     } else {
-        rate_record(random, year)
+        rate_of_either_form(random, book, year)
     }
+}
+
+/// Mostly a short RATE, if the register has its months.
+fn rate_of_either_form(random: &mut Random, book: &Book, year: u64) -> Fields {
+    if book.register.lacking(year).is_empty() && !random.once_in(4) {
+        return short_rate_record(year);
+    }
+    rate_record(random, year)
 }
 
 pub fn line_record(random: &mut Random, letter: Letter) -> Fields {

@@ -2,6 +2,7 @@
 
 use crate::kinds::Letter;
 use crate::question::Question;
+use crate::register::Month;
 use crate::reserve::YearEnd;
 use crate::totals::Totals;
 
@@ -12,6 +13,8 @@ pub enum Answer {
     Line { letter: Letter, opening: u64 },
     /// "RATE: year, the accident year's rate."
     Rate { year: u64, rate: u64 },
+    /// "MIDT prints its own fields back."
+    MonthlyRate { month: Month, rate: u64 },
     /// "A PATT prints FACT: letter, year, published factors of ages 1 to 10 (1
     /// and 2), published composite."
     Factors {
@@ -43,6 +46,9 @@ impl Answer {
         match self {
             Answer::Line { letter, opening } => texts(&[&"LINE", &letter.character(), opening]),
             Answer::Rate { year, rate } => texts(&[&"RATE", year, rate]),
+            Answer::MonthlyRate { month, rate } => {
+                texts(&[&"MIDT", &month.year, &month.number, rate])
+            }
             Answer::Factors {
                 letter,
                 year,
@@ -58,15 +64,7 @@ impl Answer {
                 letter,
                 year,
                 year_end,
-            } => texts(&[
-                &"TAX",
-                &letter.character(),
-                year,
-                &year_end.paid,
-                &year_end.opening,
-                &year_end.closing,
-                &year_end.loss,
-            ]),
+            } => tax_fields(*letter, *year, year_end),
             Answer::Sum { letter, totals } => texts(&[
                 &"SUM",
                 &letter.character(),
@@ -77,6 +75,18 @@ impl Answer {
             Answer::No(question) => texts(&[&"NO", &question.number()]),
         }
     }
+}
+
+fn tax_fields(letter: Letter, year: u64, year_end: &YearEnd) -> Vec<String> {
+    texts(&[
+        &"TAX",
+        &letter.character(),
+        &year,
+        &year_end.paid,
+        &year_end.opening,
+        &year_end.closing,
+        &year_end.loss,
+    ])
 }
 
 /// "DONE closes every run: accepted, refused."

@@ -1,4 +1,4 @@
-//! The book: its state, and questions 7 to 13.
+//! The book: its state, and questions 7 to 14.
 
 use std::collections::BTreeMap;
 
@@ -9,6 +9,7 @@ use crate::pattern::{cumulative_ratio, CumulativeRow, Pattern};
 use crate::question::Question;
 use crate::rate::accident_year_rate;
 use crate::record::{read, Request};
+use crate::register::{Month, Register};
 use crate::reserve::{year_end, Row};
 use crate::totals::Totals;
 
@@ -115,10 +116,12 @@ impl DeclaredLine {
 }
 
 /// "An empty book has no line, rate, pattern or closing, and both counts are 0."
+/// Its register has no month.
 #[derive(Clone, Debug, Default, PartialEq, Eq)]
 pub struct Book {
     pub lines: BTreeMap<Letter, DeclaredLine>,
     pub rates: BTreeMap<u64, u64>,
+    pub register: Register,
     pub accepted: u64,
     pub refused: u64,
 }
@@ -145,8 +148,8 @@ impl Book {
         }
     }
 
-    /// Questions 7 to 13; a "no" leaves lines, rates, patterns and closings as
-    /// they were.
+    /// Questions 7 to 14; a "no" leaves lines, rates, the register, patterns and
+    /// closings as they were.
     fn accept(&mut self, request: Request) -> Result<Answer, Question> {
         match request {
             Request::Line { letter, opening } => self.declare(letter, opening),
@@ -154,6 +157,8 @@ impl Book {
                 year,
                 monthly_rates,
             } => self.give_rate(year, &monthly_rates),
+            Request::RateOfRegister { year } => self.give_rate_of_register(year),
+            Request::MonthlyRate { month, rate } => self.give_monthly_rate(month, rate),
             Request::Pattern { letter, year, rows } => self.give_pattern(letter, year, &rows),
             Request::Year { letter, year, rows } => self.close_year(letter, year, &rows),
             Request::Sum { letter } => self.sum(letter),
@@ -172,6 +177,22 @@ impl Book {
         let rate = accident_year_rate(monthly_rates);
         self.rates.insert(year, rate);
         Ok(Answer::Rate { year, rate })
+    }
+
+    /// "RATE with a year alone then takes the sixty months", and question 14 is
+    /// asked after 7.
+    fn give_rate_of_register(&mut self, year: u64) -> Result<Answer, Question> {
+        require(!self.rates.contains_key(&year), Question::StillToBeGiven)?;
+        let monthly_rates = self.register.rates_of(year);
+        self.give_rate(year, &monthly_rates.ok_or(Question::MonthsGiven)?)
+    }
+
+    /// It "stores one federal mid-term rate, once".
+    fn give_monthly_rate(&mut self, month: Month, rate: u64) -> Result<Answer, Question> {
+        let is_given = self.register.rate(month).is_some();
+        require(!is_given, Question::StillToBeGiven)?;
+        self.register.store(month, rate);
+        Ok(Answer::MonthlyRate { month, rate })
     }
 
     fn give_pattern(

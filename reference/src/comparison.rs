@@ -3,6 +3,7 @@
 use std::io::Result;
 use std::path::Path;
 
+use crate::full_register;
 use crate::input_text::{ended_lines, ended_records, line};
 use crate::largest_totals;
 use crate::program::answers;
@@ -106,5 +107,6 @@ pub fn special_inputs() -> Vec<(&'static str, Vec<u8>)> {
         ),
         ("bytes 0 to 255", (0..=255).collect()),
         ("the largest totals", largest_totals::input()),
+        ("a full register", full_register::input()),
     ]
 }

@@ -4,6 +4,11 @@
 pub const FIRST_YEAR: u64 = 1987;
 pub const LAST_YEAR: u64 = 2099;
 
+/// "A record MIDT with year (1980 to 2099), month (1 to 12) and rate"
+pub const FIRST_REGISTER_YEAR: u64 = 1980;
+pub const LAST_REGISTER_YEAR: u64 = 2099;
+pub const MONTHS_OF_A_YEAR: u64 = 12;
+
 /// "A rate is a whole number of hundredths of a percent, 0 to 2500."
 pub const HIGHEST_RATE: u64 = 2_500;
 
@@ -83,6 +88,10 @@ impl Letter {
 #[derive(Clone, Copy, Debug, PartialEq, Eq)]
 pub enum NumberKind {
     Year,
+    /// The year of a MIDT.
+    RegisterYear,
+    /// The month of a MIDT.
+    Month,
     Rate,
     Opening,
     Amount,
@@ -93,6 +102,8 @@ impl NumberKind {
     pub fn lowest(self) -> i128 {
         match self {
             NumberKind::Year => i128::from(FIRST_YEAR),
+            NumberKind::RegisterYear => i128::from(FIRST_REGISTER_YEAR),
+            NumberKind::Month => 1,
             NumberKind::Rate | NumberKind::Opening | NumberKind::Amount => 0,
             NumberKind::PaidInYear => -i128::from(HIGHEST_AMOUNT),
         }
@@ -101,6 +112,8 @@ impl NumberKind {
     pub fn highest(self) -> i128 {
         i128::from(match self {
             NumberKind::Year => LAST_YEAR,
+            NumberKind::RegisterYear => LAST_REGISTER_YEAR,
+            NumberKind::Month => MONTHS_OF_A_YEAR,
             NumberKind::Rate => HIGHEST_RATE,
             NumberKind::Opening => HIGHEST_OPENING,
             NumberKind::Amount | NumberKind::PaidInYear => HIGHEST_AMOUNT,

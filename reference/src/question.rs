@@ -1,4 +1,5 @@
-//! The thirteen questions put to a record.
+//! The fourteen questions put to a record. They are numbered as the documents
+//! number them, which is not the order in which they are asked.
 
 /// "A 'no' refuses with that question's number."
 #[derive(Clone, Copy, Debug, PartialEq, Eq, PartialOrd, Ord)]
@@ -6,10 +7,11 @@ pub enum Question {
     /// "Has the line at most 1,024 bytes?", with another limit: "Make 418 the
     /// limit in question 1."
     LineLength = 1,
-    /// "Is the first field, byte for byte, one of the four words?" SUM joins
-    /// them: "New records' words, here and below, join question 2's."
+    /// "Is the first field, byte for byte, one of the four words?" SUM and MIDT
+    /// join them: "New records' words, here and below, join question 2's."
     Word = 2,
-    /// "But for RATE: is the second field a covered letter?"
+    /// "But for RATE: is the second field a covered letter?" MIDT is not asked
+    /// either: it "meets questions 1, 2 and 4 to 7".
     CoveredLetter = 3,
     /// "Is the count of fields right?"
     FieldCount = 4,
@@ -17,7 +19,8 @@ pub enum Question {
     WellWritten = 5,
     /// "Is every number within its limits?"
     WithinLimits = 6,
-    /// "LINE, RATE: is that line or that year's rate still to be given?"
+    /// "LINE, RATE: is that line or that year's rate still to be given?" And
+    /// "Question 7 also covers a month given twice."
     StillToBeGiven = 7,
     /// "PATT, YEAR: is the line declared?" It is asked of SUM too.
     LineDeclared = 8,
@@ -33,6 +36,8 @@ pub enum Question {
     NoRatioFalls = 12,
     /// "YEAR: has every age row with gross above 0 a kept pattern?"
     PatternKept = 13,
+    /// "14 after question 7, when the short RATE lacks any of its sixty months"
+    MonthsGiven = 14,
 }
 
 impl Question {

@@ -4,6 +4,7 @@ use crate::kinds::{Letter, NumberKind};
 use crate::pattern::CumulativeRow;
 use crate::question::Question;
 use crate::rate::MONTHS;
+use crate::register::Month;
 use crate::reserve::Row;
 
 /// "Make 418 the limit in question 1."
@@ -22,6 +23,14 @@ pub enum Request {
     Rate {
         year: u64,
         monthly_rates: Vec<u64>,
+    },
+    /// The short RATE: its months are those of the register.
+    RateOfRegister {
+        year: u64,
+    },
+    MonthlyRate {
+        month: Month,
+        rate: u64,
     },
     Pattern {
         letter: Letter,
@@ -56,6 +65,7 @@ pub fn read_within(line: &[u8], longest_line: usize) -> Result<Request, Question
         b"PATT" => read_pattern(&fields),
         b"YEAR" => read_year(&fields),
         b"SUM" => read_sum(&fields),
+        b"MIDT" => read_monthly_rate(&fields),
         _ => Err(Question::Word),
     }
 }
@@ -68,14 +78,27 @@ fn read_line(fields: &[&[u8]]) -> Result<Request, Question> {
     Ok(Request::Line { letter, opening })
 }
 
-/// "RATE, year, sixty rates: 62 fields."
+/// "RATE, year, sixty rates: 62 fields.", or "RATE with a year alone".
 fn read_rate(fields: &[&[u8]]) -> Result<Request, Question> {
+    if fields.len() == SHORT_RATE_FIELDS {
+        let numbers = numbers(&fields[1..], &short_rate_numbers())?;
+        let year = not_negative(numbers[0]);
+        return Ok(Request::RateOfRegister { year });
+    }
     let numbers = numbers(&fields[1..], &rate_numbers())?;
     let monthly_rates = numbers[1..].iter().map(|rate| not_negative(*rate));
     Ok(Request::Rate {
         year: not_negative(numbers[0]),
         monthly_rates: monthly_rates.collect(),
     })
+}
+
+/// "A record MIDT with year (1980 to 2099), month (1 to 12) and rate"
+fn read_monthly_rate(fields: &[&[u8]]) -> Result<Request, Question> {
+    let numbers = numbers(&fields[1..], &monthly_rate_numbers())?;
+    let [year, number, rate] = [0, 1, 2].map(|place: usize| not_negative(numbers[place]));
+    let month = Month { year, number };
+    Ok(Request::MonthlyRate { month, rate })
 }
 
 /// "PATT, letter, year, then paid and incurred an age: 23 or 7 fields."
@@ -122,11 +145,28 @@ pub fn line_numbers() -> Vec<NumberKind> {
     vec![NumberKind::Opening]
 }
 
-/// The kinds of the numbers of a RATE, in their order.
+/// The kinds of the numbers of a RATE with sixty rates, in their order.
 pub fn rate_numbers() -> Vec<NumberKind> {
     let mut kinds = vec![NumberKind::Year];
     kinds.extend([NumberKind::Rate; MONTHS]);
     kinds
+}
+
+/// The word and the year.
+pub const SHORT_RATE_FIELDS: usize = 2;
+
+/// The kinds of the numbers of a RATE "with a year alone".
+pub fn short_rate_numbers() -> Vec<NumberKind> {
+    vec![NumberKind::Year]
+}
+
+/// The kinds of the numbers of a MIDT, in their order.
+pub fn monthly_rate_numbers() -> Vec<NumberKind> {
+    vec![
+        NumberKind::RegisterYear,
+        NumberKind::Month,
+        NumberKind::Rate,
+    ]
 }
 
 /// The kinds of the numbers of a PATT, in their order.

@@ -1,255 +1,60 @@
 //! Random records that a book refuses with a given number in its present state.
 
-use crate::accepted_record::{line_record, pattern_record, rate_record};
+use crate::accepted_record::{line_of, line_record, pattern_record, rate_record};
 use crate::accepted_record::{sum_record, year_record, Fields};
 use crate::book::{Book, DeclaredLine};
-use crate::kinds::{Letter, NumberKind, FIRST_YEAR, LAST_YEAR};
+use crate::kinds::{Letter, FIRST_YEAR, LAST_YEAR};
+use crate::misread_record::misread_line;
 use crate::random::Random;
-use crate::record::{line_numbers, pattern_numbers, rate_numbers, year_numbers, LONGEST_LINE};
+use crate::register_record::{month_given_before, refused_short_rate, short_rate_record};
 
 /// A line that is refused with that number, if the book's state allows one.
 pub fn refused_line(random: &mut Random, book: &Book, number: u8) -> Option<Vec<u8>> {
-    match number {
-        1 => Some(long_line(random)),
-        2 => Some(not_too_long(random, wrong_word_line)),
-        3 => Some(not_too_long(random, wrong_letter)),
-        4 => Some(not_too_long(random, |random| line_of(wrong_count(random)))),
-        5 => Some(not_too_long(random, badly_written_line)),
-        6 => Some(not_too_long(random, past_a_limit_line)),
-        7 => given_before(random, book).map(line_of),
-        8 => undeclared(random, book).map(line_of),
-        9 => without_rate(random, book).map(line_of),
-        10 => out_of_turn(random, book).map(line_of),
-        11 => paid_not_within_incurred(random, book).map(line_of),
-        12 => falling_ratio(random, book).map(line_of),
-        13 => gross_without_pattern(random, book).map(line_of),
-        _ => None,
-    }
-}
-
-/// Fields parted by one tab.
-pub fn line_of(fields: Fields) -> Vec<u8> {
-    fields.join("\t").into_bytes()
-}
-
-/// A record of any of the five words to which questions 1 to 6 have no "no".
-fn any_record(random: &mut Random) -> Fields {
-    if random.once_in(5) {
-        return any_sum(random);
-    }
-    record_with_numbers(random)
-}
-
-fn any_sum(random: &mut Random) -> Fields {
-    sum_record(random.choice(&Letter::all()))
-}
-
-/// The same of any word but SUM, which has no numbers.
-fn record_with_numbers(random: &mut Random) -> Fields {
-    let letter = random.choice(&Letter::all());
-    let year = random.between(FIRST_YEAR, LAST_YEAR);
-    match random.below(4) {
-        0 => line_record(random, letter),
-        1 => rate_record(random, year),
-        2 => pattern_record(random, letter, year),
-        _ => year_record(random, letter, year, None),
-    }
-}
-
-/// A line of 419 bytes or more, whose start is often a good record.
-fn long_line(random: &mut Random) -> Vec<u8> {
-    let line = match random.below(6) {
-        0 => wrong_word(random),
-        1 => wrong_letter(random),
-        2 => line_of(past_a_limit(random)),
-        _ => line_of(any_record(random)),
+    let record = match number {
+        7 => given_before(random, book),
+        8 => undeclared(random, book),
+        9 => without_rate(random, book),
+        10 => out_of_turn(random, book),
+        11 => paid_not_within_incurred(random, book),
+        12 => falling_ratio(random, book),
+        13 => gross_without_pattern(random, book),
+        14 => refused_short_rate(random, book),
+        _ => return misread_line(random, number),
     };
-    let length = LONGEST_LINE + 1 + random.choice(&[0, 0, 0, 1, 100, 500, 900, 5_000]);
-    filled(line, length, random.choice(b"0 \tx"))
+    record.map(line_of)
 }
 
-/// The first of the lines made that question 1 lets through.
-fn not_too_long(random: &mut Random, line: impl Fn(&mut Random) -> Vec<u8>) -> Vec<u8> {
-    let mut lines = std::iter::repeat_with(|| line(random));
-    let found = lines.find(|line| line.len() <= LONGEST_LINE);
-    found.expect("most lines are short")
-}
-
-/// A shorter line is filled up to the length.
-fn filled(mut line: Vec<u8>, length: usize, filler: u8) -> Vec<u8> {
-    line.resize(line.len().max(length), filler);
-    line
-}
-
-/// Now and then a line is filled up to the longest that there is.
-fn sometimes_filled(random: &mut Random, line: Vec<u8>, filler: u8) -> Vec<u8> {
-    if random.once_in(8) {
-        return filled(line, LONGEST_LINE, filler);
-    }
-    line
-}
-
-fn wrong_word_line(random: &mut Random) -> Vec<u8> {
-    let line = wrong_word(random);
-    sometimes_filled(random, line, b'x')
-}
-
-fn wrong_word(random: &mut Random) -> Vec<u8> {
-    let words: &[&str] = &[
-        "",
-        "line",
-        "LINES",
-        "LIN",
-        "FACT",
-        "TAX",
-        "NO",
-        "DONE",
-        " RATE",
-        "\u{feff}YEAR",
-    ];
-    let near_sum: &[&str] = &["sum", "Sum", "SUMS", "SU", "SUM ", " SUM"];
-    let mut fields = any_record(random);
-    match random.below(5) {
-        0 => Vec::new(),
-        1 => random_bytes(random),
-        2 => [b"\r", line_of(fields).as_slice()].concat(),
-        place => {
-            let words = if place == 3 { near_sum } else { words };
-            fields[0] = random.choice(words).to_string();
-            line_of(fields)
-        }
-    }
-}
-
-/// Bytes of which none is a byte 10, beginning with one that starts no word.
-fn random_bytes(random: &mut Random) -> Vec<u8> {
-    let mut bytes = vec![random.between(128, 255) as u8];
-    for _ in 0..random.below(40) {
-        bytes.push(random.below(256) as u8);
-    }
-    bytes.retain(|byte| *byte != b'\n');
-    bytes
-}
-
-fn wrong_letter(random: &mut Random) -> Vec<u8> {
-    let letters = [
-        "", "M", "N", "O", "P", "Q", "U", "Z", "a", "j", "AA", "J ", "J\r", "0", "2015", "\r",
-    ];
-    let word = random.choice(&["LINE", "PATT", "YEAR", "SUM"]).to_string();
-    if random.once_in(5) {
-        return word.into_bytes();
-    }
-    let mut fields = any_record(random);
-    fields[0] = word;
-    fields[1] = random.choice(&letters).to_string();
-    line_of(fields)
-}
-
-fn wrong_count(random: &mut Random) -> Fields {
-    let mut fields = match random.below(4) {
-        0 => past_a_limit(random),
-        1 => return sum_with_more_fields(random),
-        _ => record_with_numbers(random),
-    };
-    let last = fields.len() - 1;
-    match random.below(4) {
-        0 => fields.truncate(last.max(2)),
-        1 => fields.push(String::new()),
-        2 => fields.insert(last, "0".to_string()),
-        _ => fields.truncate(2),
-    }
-    fields
-}
-
-/// A SUM with a third field, and often more. Its second is the letter, so it
-/// has never too few.
-fn sum_with_more_fields(random: &mut Random) -> Fields {
-    let mut fields = any_sum(random);
-    for _ in 0..random.choice(&[1, 1, 1, 2, 3]) {
-        fields.push(random.choice(&["", "", "0", "2015", "A"]).to_string());
-    }
-    fields
-}
-
-/// The kind of each number of a record, and the place of its first number.
-fn kinds_of_numbers(fields: &Fields) -> (usize, Vec<NumberKind>) {
-    let letter = Letter::covered(fields[1].as_bytes());
-    match (fields[0].as_str(), letter) {
-        ("LINE", _) => (2, line_numbers()),
-        ("PATT", Some(letter)) => (2, pattern_numbers(letter)),
-        ("YEAR", Some(letter)) => (2, year_numbers(letter)),
-        _ => (1, rate_numbers()),
-    }
-}
-
-/// One number badly written; now and then another one is past its limit.
-fn badly_written(random: &mut Random) -> Vec<u8> {
-    let wrong = [
-        "", "-", "00", "007", "-0", "-05", "+5", " 5", "5 ", "1.0", "1e3", "5\r", "--5", "x",
-        "1,000",
-    ];
-    let fields = match random.below(3) {
-        0 => past_a_limit(random),
-        _ => record_with_numbers(random),
-    };
-    let (first, kinds) = kinds_of_numbers(&fields);
-    let place = random.place(kinds.len());
-    let mut parts: Vec<Vec<u8>> = fields.into_iter().map(String::into_bytes).collect();
-    parts[first + place] = match random.below(8) {
-        0 => vec![b'5', random.choice(b"\0\x0b\x0c\r /:-\x7f\x80\xff")],
-        1 | 2 if kinds[place] == NumberKind::PaidInYear => b"-0".to_vec(),
-        1 | 2 => b"-5".to_vec(),
-        _ => random.choice(&wrong).as_bytes().to_vec(),
-    };
-    parts.join(&b'\t')
-}
-
-fn badly_written_line(random: &mut Random) -> Vec<u8> {
-    let line = badly_written(random);
-    sometimes_filled(random, line, b'x')
-}
-
-/// Digits that fill the line up would give a last 0 a leading zero.
-fn past_a_limit_line(random: &mut Random) -> Vec<u8> {
-    let line = line_of(past_a_limit(random));
-    if line.ends_with(b"\t0") {
-        return line;
-    }
-    sometimes_filled(random, line, b'7')
-}
-
-/// One number past its limit, by one or by much.
-fn past_a_limit(random: &mut Random) -> Fields {
-    let mut fields = record_with_numbers(random);
-    let (first, kinds) = kinds_of_numbers(&fields);
-    let place = random.place(kinds.len());
-    let kind = kinds[place];
-    let below = kind.lowest() - 1;
-    fields[first + place] = match random.below(5) {
-        0 => "9".repeat(random.choice(&[12, 19, 20, 39, 40, 400])),
-        1 => [
-            "18446744073709551616",
-            "340282366920938463463374607431768211456",
-        ][random.place(2)]
-        .to_string(),
-        2 | 3 if kind == NumberKind::Year || kind == NumberKind::PaidInYear => below.to_string(),
-        _ => (kind.highest() + 1).to_string(),
-    };
-    fields
-}
-
+/// The first, in random order, of a LINE, a RATE and a MIDT that is given.
 fn given_before(random: &mut Random, book: &Book) -> Option<Fields> {
+    let kinds = [line_given_before, rate_given_before, month_given_before];
+    let kinds = random.shuffled(&kinds);
+    kinds.iter().find_map(|record| record(random, book))
+}
+
+fn line_given_before(random: &mut Random, book: &Book) -> Option<Fields> {
     let letters: Vec<Letter> = book.lines.keys().copied().collect();
-    let years: Vec<u64> = book.rates.keys().copied().collect();
-    if !years.is_empty() && random.once_in(2) {
-        let year = random.choice(&years);
-        return Some(rate_record(random, year));
-    }
     if letters.is_empty() {
         return None;
     }
     let letter = random.choice(&letters);
     Some(line_record(random, letter))
+}
+
+/// A RATE of either form, whichever the year's first one had, often of a year
+/// whose months the register has.
+fn rate_given_before(random: &mut Random, book: &Book) -> Option<Fields> {
+    let years: Vec<u64> = book.rates.keys().copied().collect();
+    if years.is_empty() {
+        return None;
+    }
+    let has_months = |year: &&u64| book.register.lacking(**year).is_empty();
+    let complete: Vec<u64> = years.iter().filter(has_months).copied().collect();
+    let use_complete = !complete.is_empty() && random.once_in(2);
+    let year = random.choice(if use_complete { &complete } else { &years });
+    if random.once_in(2) {
+        return Some(short_rate_record(year));
+    }
+    Some(rate_record(random, year))
 }
 
 fn undeclared(random: &mut Random, book: &Book) -> Option<Fields> {

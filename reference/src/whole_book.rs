@@ -1,16 +1,21 @@
 //! A whole book for the speed comparison: every letter and every year, with
-//! numbers as a small company has them. Every record is accepted by an empty
-//! book.
+//! numbers as a small company has them, and the same book with its rates from the
+//! register. Every record is accepted by an empty book.
 
-use crate::accepted_record::Fields;
-use crate::kinds::{Letter, LineKind, FIRST_YEAR, LAST_YEAR};
+use crate::accepted_record::{line_of, Fields};
+use crate::kinds::{Letter, LineKind};
+use crate::kinds::{FIRST_REGISTER_YEAR, FIRST_YEAR, LAST_REGISTER_YEAR, LAST_YEAR};
 use crate::random::Random;
 use crate::rate::MONTHS;
-use crate::refused_record::line_of;
+use crate::register::{months_of_rate, months_of_year, Month};
+use crate::register_record::{monthly_rate_record, short_rate_record};
 
 /// A LINE for each letter; for each year a RATE, and a PATT and a YEAR for each
 /// letter.
 pub const RECORDS: usize = 15 + 113 * (1 + 15 * 2);
+
+/// The same with a MIDT for each month from 1980 to 2099.
+pub const RECORDS_OF_REGISTER: usize = RECORDS + 120 * 12;
 
 /// The seed of the book that the speed comparison runs.
 pub const SEED: u64 = 846;
@@ -27,8 +32,26 @@ const TWO_YEAR_PAID: [u64; 2] = [885_000, 991_000];
 /// the shares of two ages differ, so that no ratio falls.
 const VARIATION: u64 = 6_000;
 
+/// Where a book's rates come from.
+#[derive(Clone, Copy, PartialEq, Eq)]
+enum Rates {
+    /// Each RATE has its sixty rates.
+    Own,
+    /// Each month has its MIDT, and each RATE its year alone.
+    Register,
+}
+
 /// The whole book, each record ended with byte 10.
 pub fn whole_book(seed: u64) -> Vec<u8> {
+    book_with(seed, Rates::Own)
+}
+
+/// The same book with the same rates, all of them from the register.
+pub fn whole_book_of_register(seed: u64) -> Vec<u8> {
+    book_with(seed, Rates::Register)
+}
+
+fn book_with(seed: u64, rates: Rates) -> Vec<u8> {
     let mut random = Random::new(seed);
     let businesses: Vec<Business> = Letter::all()
         .into_iter()
@@ -43,7 +66,8 @@ pub fn whole_book(seed: u64) -> Vec<u8> {
         add_twelve_months(&mut random, &mut months);
     }
     for year in FIRST_YEAR..=LAST_YEAR {
-        put(&mut book, rate_record(&mut random, year, &mut months));
+        add_twelve_months(&mut random, &mut months);
+        put_rate(&mut book, rates, year, &months);
         for business in &businesses {
             put(&mut book, business.pattern(&mut random, year));
             put(&mut book, business.year(&mut random, year));
@@ -70,8 +94,40 @@ fn add_twelve_months(random: &mut Random, months: &mut [u64; MONTHS]) {
     }
 }
 
-fn rate_record(random: &mut Random, year: u64, months: &mut [u64; MONTHS]) -> Fields {
-    add_twelve_months(random, months);
+/// The RATE of a year, after the MIDTs of its months that are still to be given.
+fn put_rate(book: &mut Vec<u8>, rates: Rates, year: u64, months: &[u64; MONTHS]) {
+    if rates == Rates::Own {
+        return put(book, rate_record(year, months));
+    }
+    let last_rate = months[MONTHS - 1];
+    if year == FIRST_YEAR {
+        put_months(book, months_before_rates(), &[months[0]; MONTHS]);
+        put_months(book, months_of_rate(year), months);
+    } else {
+        let new = months_of_year(year - 1).collect();
+        put_months(book, new, &months[MONTHS - 12..]);
+    }
+    put(book, short_rate_record(year));
+    if year == LAST_YEAR {
+        let last = months_of_year(LAST_REGISTER_YEAR).collect();
+        put_months(book, last, &[last_rate; MONTHS]);
+    }
+}
+
+/// The months of the register before the first that a RATE takes.
+fn months_before_rates() -> Vec<Month> {
+    let first = months_of_rate(FIRST_YEAR)[0];
+    let years = FIRST_REGISTER_YEAR..first.year;
+    years.flat_map(months_of_year).collect()
+}
+
+fn put_months(book: &mut Vec<u8>, months: Vec<Month>, rates: &[u64]) {
+    for (month, rate) in months.into_iter().zip(rates) {
+        put(book, monthly_rate_record(month, *rate));
+    }
+}
+
+fn rate_record(year: u64, months: &[u64; MONTHS]) -> Fields {
     let mut fields = vec!["RATE".to_string(), year.to_string()];
     fields.extend(months.iter().map(u64::to_string));
     fields

@@ -100,6 +100,8 @@ struct LineTerms {
 #[derive(Default)]
 struct Terms {
     rates: BTreeMap<u64, u64>,
+    /// By year and month.
+    monthly_rates: BTreeMap<(u64, u64), u64>,
     lines: BTreeMap<Letter, LineTerms>,
     rows_checked: usize,
     rows_at_stated: usize,
@@ -114,14 +116,9 @@ impl Terms {
                 line.declared_opening = i128::from(*opening);
             }
             (
-                Request::Rate {
-                    year,
-                    monthly_rates,
-                },
+                Request::Rate { .. } | Request::RateOfRegister { .. } | Request::MonthlyRate { .. },
                 _,
-            ) => {
-                self.rates.insert(*year, accident_year_rate(monthly_rates));
-            }
+            ) => self.take_rate(request),
             (Request::Pattern { letter, year, rows }, _) => {
                 let ratios: Vec<u64> = rows.iter().map(|row| cumulative_ratio(*row)).collect();
                 let pattern = Pattern::new(letter.kind(), &ratios);
@@ -144,6 +141,27 @@ impl Terms {
                 panic!("a closed year is answered with TAX, a SUM with SUM")
             }
         }
+    }
+
+    /// Takes in a RATE of either form, or a MIDT.
+    fn take_rate(&mut self, request: &Request) {
+        let (year, rates) = match request {
+            Request::Rate {
+                year,
+                monthly_rates,
+            } => (*year, monthly_rates.clone()),
+            Request::RateOfRegister { year } => {
+                let months = self.monthly_rates.range((*year - 5, 1)..(*year, 1));
+                (*year, months.map(|(_, rate)| *rate).collect())
+            }
+            Request::MonthlyRate { month, rate } => {
+                self.monthly_rates.insert((month.year, month.number), *rate);
+                return;
+            }
+            _ => panic!("no rate"),
+        };
+        assert_eq!(rates.len(), 60);
+        self.rates.insert(year, accident_year_rate(&rates));
     }
 
     /// Each discounted row is near its exact value, and they sum to the closing.

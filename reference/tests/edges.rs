@@ -288,6 +288,35 @@ fn each_of_the_bytes_0_to_255_as_the_letter_of_a_sum_and_after_it() {
     }
 }
 
+/// A byte as the last of a month and of a short RATE's year. The register has no
+/// month.
+#[test]
+fn each_of_the_bytes_0_to_255_in_a_month_and_in_the_year_of_a_short_rate() {
+    for byte in (0..=255_u8).filter(|byte| *byte != b'\n') {
+        let answer = |start: &[u8], end: &[u8]| {
+            answer_to_bytes(&mut Book::default(), &[start, &[byte], end].concat())
+        };
+        let month = char::from(byte);
+        let in_month = match byte {
+            b'0'..=b'2' => format!("MIDT 1990 1{month} 5"),
+            b'3'..=b'9' => "NO 6".to_string(),
+            b'\t' => "NO 4".to_string(),
+            _ => "NO 5".to_string(),
+        };
+        assert_eq!(answer(b"MIDT\t1990\t1", b"\t5"), in_month, "byte {byte}");
+        let in_year = match byte {
+            b'0'..=b'9' => "NO 14",
+            b'\t' => "NO 4",
+            _ => "NO 5",
+        };
+        assert_eq!(answer(b"RATE\t199", b""), in_year, "byte {byte}");
+        let is_word = byte == b'T';
+        assert_eq!(answer(b"MID", b""), if is_word { "NO 4" } else { "NO 2" });
+        let is_tab = byte == b'\t';
+        assert_eq!(answer(b"MIDT", b""), if is_tab { "NO 4" } else { "NO 2" });
+    }
+}
+
 /// The rate 0 discounts nothing, so paid, closing and loss reach both ends.
 #[test]
 fn paid_closing_and_loss_at_the_ends_of_their_range() {

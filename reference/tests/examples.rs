@@ -37,14 +37,20 @@ const EXHIBITS: Stored = Stored {
     answers: include_str!("../../examples/exhibits.out"),
 };
 
+const REGISTER: Stored = Stored {
+    records: include_str!("../../examples/register.txt"),
+    answers: include_str!("../../examples/register.out"),
+};
+
 /// Each text with the runs that it goes through.
-const EXAMPLES: [(&str, &[Stored]); 3] = [
+const EXAMPLES: [(&str, &[Stored]); 4] = [
     (include_str!("../../examples/class.md"), &[CLASS]),
     (
         include_str!("../../examples/year_end.md"),
         &[FIRST_TRY, YEAR_END],
     ),
     (include_str!("../../examples/exhibits.md"), &[EXHIBITS]),
+    (include_str!("../../examples/register.md"), &[REGISTER]),
 ];
 
 #[test]
@@ -69,11 +75,13 @@ fn is_answer(line: &str) -> bool {
 }
 
 /// Each answer stands in the text as a line of its own, in order, and no other.
+/// The months of a register stand in a table.
 #[test]
 fn the_text_shows_every_answer() {
     for (text, runs) in EXAMPLES {
         let shown = text.lines().filter(|line| is_answer(line)).map(str::trim);
         let answers = runs.iter().flat_map(|stored| stored.answers.lines());
+        let answers = answers.filter(|line| !line.starts_with("MIDT\t"));
         let answers: Vec<String> = answers.map(|line| line.replace('\t', " ")).collect();
         assert_eq!(shown.collect::<Vec<_>>(), answers);
     }
@@ -257,7 +265,7 @@ fn totals_of(letter: char, years: &[ClosedYear]) -> [String; 4] {
 
 #[test]
 fn the_text_has_the_totals_and_the_reconciliation_of_every_line() {
-    for (example, letter) in [(0, 'B'), (0, 'J'), (1, 'D')] {
+    for (example, letter) in [(0, 'B'), (0, 'J'), (1, 'D'), (3, 'J')] {
         let (text, runs) = EXAMPLES[example];
         let mut years: Vec<ClosedYear> = runs.iter().flat_map(closed_years).collect();
         years.retain(|closed| closed.letter.character() == letter);

@@ -10,8 +10,8 @@ use reference::book::Book;
 use reference::kinds::{Letter, NumberKind};
 use reference::question::Question;
 use reference::random::Random;
-use reference::record::{line_numbers, pattern_numbers, rate_numbers, year_numbers};
-use reference::record::{read, read_within, LONGEST_LINE};
+use reference::record::{line_numbers, monthly_rate_numbers, pattern_numbers, rate_numbers};
+use reference::record::{read, read_within, short_rate_numbers, year_numbers, LONGEST_LINE};
 use reference::run::records;
 use reference::stored_input::NAMES;
 use reference::stream::random_stream;
@@ -24,7 +24,9 @@ type Kind = (String, Vec<NumberKind>);
 
 /// Every kind of record, for every letter.
 fn kinds() -> Vec<Kind> {
-    let mut kinds = vec![("RATE".to_string(), rate_numbers())];
+    let rates = [rate_numbers(), short_rate_numbers(), monthly_rate_numbers()];
+    let words = ["RATE", "RATE", "MIDT"].map(str::to_string);
+    let mut kinds: Vec<Kind> = words.into_iter().zip(rates).collect();
     for letter in Letter::all() {
         let start = |word: &str| format!("{word}\t{}", letter.character());
         kinds.extend([
@@ -65,9 +67,9 @@ fn the_widest_record_of_each_kind() {
     assert_eq!(lengths.iter().max(), Some(&LONGEST_LINE));
     lengths.sort_unstable();
     lengths.dedup();
-    // SUM, LINE; PATT and YEAR of a two-year line; PATT of a ten-year line,
-    // RATE and YEAR of a ten-year line.
-    assert_eq!(lengths, [5, 19, 59, 122, 251, 309, 418]);
+    // SUM, short RATE, MIDT, LINE; PATT and YEAR of a two-year line; PATT of a
+    // ten-year line, RATE and YEAR of a ten-year line.
+    assert_eq!(lengths, [5, 9, 17, 19, 59, 122, 251, 309, 418]);
 }
 
 /// A number of one digit more is past its limits, so no other record is wider.

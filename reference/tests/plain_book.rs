@@ -7,7 +7,7 @@ use reference::random::Random;
 use reference::run::run;
 use reference::stored_input::{stored_input, NAMES};
 use reference::stream::random_stream;
-use reference::whole_book::{whole_book, SEED};
+use reference::whole_book::{whole_book, whole_book_of_register, SEED};
 
 fn check(input: &[u8], what: &str) {
     let program = Path::new(env!("CARGO_BIN_EXE_plain_book"));
@@ -33,6 +33,7 @@ fn random_streams() {
 #[test]
 fn a_whole_book_twice() {
     check(&whole_book(SEED).repeat(2), "twice");
+    check(&whole_book_of_register(SEED).repeat(2), "register, twice");
 }
 
 #[test]
@@ -55,6 +56,16 @@ fn bytes_0_to_255_and_empty_input() {
         "SUM\t",
         "SUM\tA",
         "SUM\tA\t",
+        "RATE\t2015",
+        "RATE\t2015\t",
+        "MID",
+        "MIDT",
+        "MIDT\t",
+        "MIDT\t1980",
+        "MIDT\t1980\t1",
+        "MIDT\t1980\t1\t",
+        "MIDT\t1980\t1\t5",
+        "MIDT\t1980\t1\t5\t",
     ] {
         check(word.as_bytes(), word);
         check(format!("{word}\n").as_bytes(), word);
@@ -65,7 +76,7 @@ fn bytes_0_to_255_and_empty_input() {
 #[test]
 fn random_bytes() {
     let mut random = Random::new(4);
-    let pieces: [&[u8]; 15] = [
+    let pieces: [&[u8]; 19] = [
         b"\n",
         b"\n",
         b"\t",
@@ -80,6 +91,10 @@ fn random_bytes() {
         b"SUM\t",
         b"SUM\tJ",
         b"\nSUM\tA\n",
+        b"MIDT\t",
+        b"\nMIDT\t1980\t1\t5\n",
+        b"\nRATE\t2015\n",
+        b"1990\t12",
         b"\xff",
     ];
     for _ in 0..20 {

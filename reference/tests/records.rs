@@ -21,6 +21,10 @@ fn line(bytes: &[u8]) -> String {
             year,
             monthly_rates,
         }) => format!("RATE {year} {}", list(monthly_rates, 60)),
+        Ok(Request::RateOfRegister { year }) => format!("RATE {year}"),
+        Ok(Request::MonthlyRate { month, rate }) => {
+            format!("MIDT {} {} {rate}", month.year, month.number)
+        }
         Ok(Request::Pattern { letter, year, rows }) => {
             let paid = rows.iter().map(|row| row.paid).collect();
             let incurred = rows.iter().map(|row| row.incurred).collect();
@@ -63,6 +67,7 @@ fn lines_ask_what_the_proved_program_prints() {
 fn every_question_and_every_kind_occurs() {
     for start in [
         "NO 1", "NO 2", "NO 3", "NO 4", "NO 5", "NO 6", "LINE", "RATE", "PATT", "YEAR", "SUM",
+        "MIDT",
     ] {
         let count = STORED
             .lines()

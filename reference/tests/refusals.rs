@@ -13,14 +13,20 @@ struct Case {
     accepted: String,
 }
 
-/// Line J with a pattern of 2015, not closed; a rate for 2015 and 2016.
+/// Line J with a pattern of 2015, not closed; a rate for 2015 and 2016; the months
+/// of 2012 to 2016, which RATE 2017 takes.
 fn book() -> Book {
-    book_after(&[
+    let mut book = book_after(&[
         "LINE J 0",
         &rate(2015, 500),
         &rate(2016, 700),
         "PATT J 2015 50 100 90 100",
-    ])
+    ]);
+    for place in 0..60 {
+        let record = format!("MIDT {} {} 5", 2012 + place / 12, 1 + place % 12);
+        assert_eq!(answer(&mut book, &record), record);
+    }
+    book
 }
 
 fn case(number: u8, refused: &str, accepted: &str) -> Case {
@@ -84,6 +90,54 @@ fn cases_of_sums() -> Vec<Case> {
     ]
 }
 
+fn cases_of_reading_the_register() -> Vec<Case> {
+    let month = "MIDT 2017 1 5";
+    let pairs = [
+        (2, "midt 2017 1 5", month),
+        (2, "MIDTS 2017 1 5", month),
+        (2, "MID 2017 1 5", month),
+        (2, "Rate 2017", "RATE 2017"),
+        (4, "MIDT", month),
+        (4, "MIDT 2017 1", month),
+        (4, "MIDT 2017 1 5 ", month),
+        (4, "MIDT J 2017 1 5", month),
+        (4, "RATE", "RATE 2017"),
+        (4, "RATE 2017 ", "RATE 2017"),
+        (4, "RATE 2017 5", "RATE 2017"),
+        (5, "MIDT J 1 5", month),
+        (5, "MIDT 2017 01 5", month),
+        (5, "MIDT 2017 1 -5", month),
+        (5, "MIDT 2017 1 ", "MIDT 2017 1 0"),
+        (5, "RATE 02017", "RATE 2017"),
+        (5, "RATE ", "RATE 2017"),
+        (6, "MIDT 1979 1 5", "MIDT 1980 1 5"),
+        (6, "MIDT 2100 1 5", "MIDT 2099 1 5"),
+        (6, "MIDT 2017 0 5", month),
+        (6, "MIDT 2017 13 5", "MIDT 2017 12 5"),
+        (6, "MIDT 2017 1 2501", "MIDT 2017 1 2500"),
+        (6, "RATE 1986", "RATE 2017"),
+        (6, "RATE 2100", "RATE 2017"),
+    ];
+    let cases = pairs.map(|(number, refused, accepted)| case(number, refused, accepted));
+    cases.into()
+}
+
+fn cases_of_the_register() -> Vec<Case> {
+    let month = "MIDT 2017 1 5";
+    vec![
+        case(1, &format!("MIDT 2017 1 {}", "1".repeat(407)), month),
+        case(1, &format!("RATE {}", "1".repeat(414)), "RATE 2017"),
+        case(7, "MIDT 2016 12 5", month),
+        case(7, "MIDT 2012 1 6", "MIDT 2011 12 6"),
+        case(7, "RATE 2016", "RATE 2017"),
+        case(7, "RATE 2015", "RATE 2017"),
+        case(14, "RATE 2018", "RATE 2017"),
+        case(14, "RATE 2014", "RATE 2017"),
+        case(14, "RATE 2099", "RATE 2017"),
+        case(14, "RATE 1987", "RATE 2017"),
+    ]
+}
+
 fn cases_of_the_book() -> Vec<Case> {
     vec![
         case(7, "LINE J 0", "LINE K 0"),
@@ -126,9 +180,11 @@ fn each_refusal_leaves_the_state_and_its_neighbour_is_accepted() {
     let cases: Vec<Case> = cases_of_reading()
         .into_iter()
         .chain(cases_of_sums())
+        .chain(cases_of_reading_the_register())
+        .chain(cases_of_the_register())
         .chain(cases_of_the_book())
         .collect();
-    for number in 1..=13 {
+    for number in 1..=14 {
         assert!(cases.iter().any(|case| case.number == number));
     }
     for case in cases {
@@ -158,7 +214,8 @@ fn the_questions_come_in_their_order() {
         (3, "YEAR M 1".to_string()),
         (3, "PATT".to_string()),
         (4, "RATE".to_string()),
-        (4, "RATE M".to_string()),
+        (5, "RATE M".to_string()),
+        (4, "RATE M ".to_string()),
         (4, "LINE K 01 01".to_string()),
         (4, "PATT J 1986 1 2 x".to_string()),
         (5, "PATT J 1986 1 2 1 02".to_string()),
@@ -217,6 +274,28 @@ fn ten_and_two_year_lines_have_their_own_field_counts() {
             let answer = answer(&mut book, &format!("{start} {zeros}"));
             assert_eq!(answer, format!("NO {expected}"));
         }
+    }
+}
+
+/// RATE 2015 has a rate and lacks months, MIDT 2016 12 is given.
+#[test]
+fn the_questions_of_the_register_come_in_their_order() {
+    let long = format!("MIDTS 1979 {}", "1".repeat(412));
+    for (number, record) in [
+        (1, long.as_str()),
+        (2, "MIDTS 1979 13"),
+        (4, "MIDT 1979 01"),
+        (4, "RATE 1986 x"),
+        (5, "MIDT 1979 01 2501"),
+        (5, "RATE 01986"),
+        (6, "MIDT 2016 12 2501"),
+        (6, "RATE 1986"),
+        (7, "MIDT 2016 12 2500"),
+        (7, "RATE 2015"),
+        (14, "RATE 2018"),
+    ] {
+        let expected = format!("NO {number}");
+        assert_eq!(answer(&mut book(), record), expected, "{record}");
     }
 }
 

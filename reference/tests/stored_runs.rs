@@ -92,7 +92,7 @@ fn every_edge_has_its_answer() {
 #[test]
 fn the_edges_have_every_answer_every_refusal_and_no_last_byte_10() {
     let input = made("test_edges");
-    assert_eq!(counts(&output(&input)).len(), 5 + 13 + 1);
+    assert_eq!(counts(&output(&input)).len(), 6 + 14 + 1);
     assert!(!input.ends_with(b"\n"));
     for byte in 0..=255_u8 {
         assert!(input.contains(&byte));
@@ -122,6 +122,7 @@ fn the_edges_have_the_widest_record_of_each_kind() {
         ("TAX B ", 418),
         ("TAX S ", 122),
         ("SUM ", 5),
+        ("MIDT ", 17),
     ] {
         assert_eq!(longest_with(answer), Some(longest), "{answer}");
     }
@@ -137,7 +138,7 @@ fn the_random_records_have_every_answer_and_every_refusal_often() {
     let mut counts = counts(&lines);
     assert!(counts.remove("LINE") >= Some(12));
     assert_eq!(counts.remove("DONE"), Some(1));
-    assert_eq!(counts.len(), 4 + 13);
+    assert_eq!(counts.len(), 5 + 14);
     for (answer, count) in counts {
         assert!(count >= 20, "{answer}: {count}");
     }

@@ -11,7 +11,7 @@ use lib.IntN.{ℤ}
 use lib.ListN.{length, set}
 use Rattle.model.specs.Number.{decimal, signedDecimal}
 use Rattle.model.specs.Published.{published}
-use Rattle.model.specs.Answer.{declared, rated, tax, summed, refusal, lineOfText, text}
+use Rattle.model.specs.Answer.{declared, rated, tax, summed, registered, refusal, lineOfText, text}
 use Rattle.model.specs.Answer as model
 use Rattle.ledger.specs.declared.answer.Answer.{Answer}
 use Rattle.ledger.specs.declared.answer.Answer.the-variants as answer
@@ -89,6 +89,14 @@ module _ (buffer : List ℕ) (at : ℕ) (room : Room buffer at 320) (later : Lis
       rw (← ep, ← el)
       (and-then buffer at _ m₁ n₁ 26 p₁ 45 (omega arith) _ _ _ (λ room₁. and-then m₁ n₁ _ m₂ n₂ 22 p₂ 23 room₁ _ _ _ (λ room₂. and-end m₂ n₂ _ later last 22 p₃ room₂)))
 
+  -- "MIDT prints its own fields back."
+  pub registered-put : (year month rate : ℕ) (m₀ m₁ m₂ : List ℕ) (n₀ n₁ n₂ : ℕ) → Puts buffer at (77 ∷ 73 ∷ 68 ∷ 84 ∷ []) m₀ n₀ → PutsShort m₀ n₀ (9 ∷ decimal year) m₁ n₁ 21 → PutsShort m₁ n₁ (9 ∷ decimal month) m₂ n₂ 21
+      → PutsShort m₂ n₂ (9 ∷ decimal rate) later last 21 → Puts buffer at (text (registered year month rate)) (set later last 10) (last + 1)
+  unfolding text
+  registered-put year month rate m₀ m₁ m₂ n₀ n₁ n₂ p p₁ p₂ p₃ =
+      and-then buffer at _ m₀ n₀ 4 (word-put buffer at _ m₀ n₀ p) 64 (omega arith) _ _ _ (λ room₁. and-then m₀ n₀ _ m₁ n₁ 21 p₁ 43 room₁ _ _ _ (λ room₂. and-then m₁ n₁ _ m₂ n₂ 21 p₂ 22 room₂ _ _ _
+      (λ room₃. and-end m₂ n₂ _ later last 21 p₃ room₃)))
+
   -- "NO: the refusal's number."
   pub refusal-put : (question : ℕ) → PutsShort (set (set buffer at 78) (at + 1) 79) (at + 2) (9 ∷ decimal question) later last 21 → Puts buffer at (text (refusal question)) (set later last 10) (last + 1)
   unfolding text
@@ -139,6 +147,9 @@ module _ (buffer : List ℕ) (at : ℕ) (t : Bool) (et : t ≡ hasRoom buffer at
   pub summed-answered : (letter years : ℕ) (paid losses : ℤ) → given ≡ answer.Sum letter years paid losses → (paid′ losses′ : ℤ) → Puts buffer at (text (summed letter years paid′ losses′)) later last → paid′ ≡ paid → losses′ ≡ losses
       → PutsWithRoom buffer at (text (answered given store)) later last
   summed-answered letter years paid losses eg paid′ losses′ p ep el = line-answered (summed letter years paid losses) (rw eg) (rw (ep, el) at p)
+
+  pub registered-answered : (year month rate : ℕ) → given ≡ answer.MidTerm year month rate → Puts buffer at (text (registered year month rate)) later last → PutsWithRoom buffer at (text (answered given store)) later last
+  registered-answered year month rate eg p = line-answered (registered year month rate) (rw eg) p
 
   pub refusal-answered : (question : Refusal) → given ≡ answer.No question → (number : ℕ) → number ≡ numberOf question → Puts buffer at (text (refusal number)) later last → PutsWithRoom buffer at (text (answered given store)) later last
   refusal-answered question eg number en p = line-answered (refusal (numberOf question)) (rw eg) (rw en at p)

@@ -12,7 +12,7 @@ ghost use mathlib.Core.List.{[], _∷_, _++_, map};
 ghost use mathlib.Core.Path.{_≡_};
 ghost use Prim.Native.Nat.{_+_};
 ghost use lib.ListN.{length};
-ghost use Rattle.model.specs.Answer.{declared, rated, tax, summed, refusal, lineOfText, text, doneText};
+ghost use Rattle.model.specs.Answer.{declared, rated, tax, summed, registered, refusal, lineOfText, text, doneText};
 ghost use Rattle.model.specs.Number.{decimal};
 ghost use Rattle.model.specs.Published.{published};
 ghost use Rattle.state.specs.Patterns.{factorAt, patternAt};
@@ -47,6 +47,7 @@ pub fn put_answer(out: &mut [u8], at: usize, answer: Answer, store: &Store) -> u
                 paid,
                 losses,
             } => put_summed(out, at, letter, years, paid, losses),
+            Answer::MidTerm { year, month, rate } => put_registered(out, at, year, month, rate),
             Answer::No(refusal) => put_refusal(out, at, refusal.number()),
         }
     } else {
@@ -191,6 +192,19 @@ fn put_summed(out: &mut [u8], at: usize, letter: u8, years: u64, paid: i64, loss
     let first = put_beginning(out, at, b"SUM\t", letter, years);
     let second = put_signed(out, first, paid);
     let last = put_signed(out, second, losses);
+    out[last] = 10;
+    last + 1
+}
+
+// F-4: "MIDT prints its own fields back."
+fn put_registered(out: &mut [u8], at: usize, year: u64, month: u64, rate: u64) -> usize
+    requires { ⌜ Room (now out) at 320 ⌝ }
+    ensures { λ r. ⌜ Puts (now (out .entry)) at (text (registered year month rate)) (now (out .exit)) r ⌝ }
+{
+    let first = put(out, at, b"MIDT");
+    let second = put_number(out, first, year);
+    let third = put_number(out, second, month);
+    let last = put_number(out, third, rate);
     out[last] = 10;
     last + 1
 }

@@ -44,7 +44,7 @@ use Rattle.closings.specs.Totals.{OfAYear}
 use Rattle.state.proofs.Limited.{opening-small, closing-small, closed-kept, line-limited, closing-limited}
 use Rattle.state.proofs.KeptYears.{kept-year}
 use Rattle.state.proofs.Views.{line-is}
-use Rattle.state.proofs.ClosedYears.{year-put}
+use Rattle.state.proofs.ClosedYears.{year-put, year-register}
 use Rattle.state.proofs.TotalPieces.{totals-within}
 use Rattle.closings.proofs.RowPatterns.{row-factors-are}
 use Rattle.closings.proofs.YearAsked.{due-kept, due-last, due-open, passes}
@@ -148,7 +148,7 @@ module _ (store : List ℕ) (line : Line) (letter year : ℕ) (paid : List ℤ) 
       year-closed book n middle em closed ec later el r er =
           rw (passes store line letter year paid unpaid tabular pre book, er, el, em, ec, ep, ev, ee, eo, end-is)
           record {
-            outcome = rw (year-put store letter year amount line totals (pre .turned .sound .letter) n is-year closed-limited within-year, line-is store letter line (pre .turned .here), opening-is store letter line (pre .turned .declared));
+            outcome = rw (year-register store letter year amount line totals (pre .turned .sound .letter) n is-year closed-limited within-year, year-put store letter year amount line totals (pre .turned .sound .letter) n is-year closed-limited within-year, line-is store letter line (pre .turned .here), opening-is store letter line (pre .turned .declared));
             own = refl;
             lent = rw (line-is store letter line (pre .turned .here), opening-is store letter line (pre .turned .declared), ← (pre .turned .here));
           }

@@ -66,6 +66,16 @@ count-end s n i h le =
     let a : length (fields (drop i s)) ≡ 1 = rw (drop-of-length-le s le, fields-nil) in
     omega (arith, h .rest)
 
+-- a tab after as many fields as are expected: there are more
+pub one-too-many : (s : List ℕ) (n i expected : ℕ) → Counting s n i → i < length s → getD s i 0 ≡ 9 → n ≡ expected → false ≡ eqb (length (fields s)) expected
+one-too-many s n i expected h lt e q =
+    let next : Counting s (n + 1) (i + 1) = count-tab s n i (n + 1) h lt e refl in
+    let more : length (fields s) ≡ expected → ⊥ = λ x. omega (arith, next .rest, some-field (drop (i + 1) s)) in
+    sym (ne-eqb (length (fields s)) expected more)
+
+pub as-many : (s : List ℕ) (n i expected : ℕ) → Counting s n i → length s ≤ i → eqb n expected ≡ eqb (length (fields s)) expected
+as-many s n i expected h le = ap (λ (k : ℕ). eqb k expected) (count-end s n i h le)
+
 -- the first field is the part before the first tab, and the others are those of what comes after the tab
 record Parted (s : List ℕ) : Type 0 where
   within : length (before s) < length s

@@ -1,5 +1,6 @@
 // "Fields are parted by one tab. Each field is a part of the line, read from where the last one ended, and a field is handed back as that part of the line itself."
 ghost use mathlib.Core.Path.{_≡_};
+ghost use lib.Dec.{eqb};
 ghost use lib.ListN.{length};
 ghost use Rattle.model.specs.Field.{fields, field};
 ghost use Rattle.field.specs.Place.{Starts};
@@ -31,6 +32,24 @@ pub fn count(line: &[u8]) -> usize
         i += 1;
     }
     n
+}
+
+// Has the line that many fields? It is not gone over past the first that is too many.
+pub fn has_fields(line: &[u8], expected: usize) -> bool
+    ensures { λ r. ⌜ r ≡ eqb (length (fields (now (line .entry)))) expected ⌝ }
+{
+    let mut n: usize = 1;
+    let mut i = 0;
+    while i < line.len() {
+        if line[i] == b'\t' {
+            if n == expected {
+                return false;
+            }
+            n += 1;
+        }
+        i += 1;
+    }
+    n == expected
 }
 
 // Where the field at place `place` begins; past the line's end where there is none.

@@ -1,15 +1,19 @@
--- The five words, and the letter.
+-- The six words, the forms of RATE, and the letter.
 -- Assumes nothing.
 use mathlib.Core.Bool.{Bool, true, false}
 use mathlib.Core.Path.{_≡_, refl, ap, _∙_}
 use mathlib.Core.List.{List, [], _∷_}
 use Prim.Native.Nat.{ℕ, _-_, _≤_, _<_}
 use native.Mathlib.Omega.{arith}
+use lib.Dec.{eqb}
 use lib.ListN.{length, take, drop, getD, List·getD-eq-default}
 use lib.Seq.{getD-drop}
 use Rattle.model.specs.Basics.{same, bytes}
 use Rattle.model.specs.Field.{fields, field, onlyByte, letterIn}
-use Rattle.model.specs.Record.{LINE, RATE, PATT, YEAR, SUM, OTHER, wordOf}
+use Rattle.model.specs.Record.{LINE, RATE, RATE-ALONE, PATT, YEAR, SUM, MIDT, OTHER, wordOf, formOf}
+use Rattle.form.specs.Word.{named}
+use Rattle.form.specs.declared.word.Word as code
+use Rattle.form.specs.declared.word.Word.the-variants.{Rate}
 use Rattle.field.specs.Place.{Starts}
 use Rattle.field.proofs.Scan.{before, first-field}
 use Rattle.field.proofs.Fields.{rest-of, has-field, no-field}
@@ -39,9 +43,22 @@ module _ (f : List ℕ) (a : Bool) (ea : a ≡ same f (bytes "LINE")) where
           unfolding wordOf
           is-sum q = rw (← ea, a0, ← eb, b0, ← ec, c0, ← ed, d0, ← ee, q)
 
-          pub is-other : e ≡ false → OTHER ≡ wordOf f
-          unfolding wordOf
-          is-other q = rw (← ea, a0, ← eb, b0, ← ec, c0, ← ed, d0, ← ee, q)
+          module _ (e0 : e ≡ false) (g : Bool) (eg : g ≡ same f (bytes "MIDT")) where
+            pub is-midt : g ≡ true → MIDT ≡ wordOf f
+            unfolding wordOf
+            is-midt q = rw (← ea, a0, ← eb, b0, ← ec, c0, ← ed, d0, ← ee, e0, ← eg, q)
+
+            pub is-other : g ≡ false → OTHER ≡ wordOf f
+            unfolding wordOf
+            is-other q = rw (← ea, a0, ← eb, b0, ← ec, c0, ← ed, d0, ← ee, e0, ← eg, q)
+
+-- the form of a record, by the code's word
+module _ (word : code.Word) (n : ℕ) where
+  pub rate-alone : word ≡ Rate → (t : Bool) → t ≡ eqb n 2 → t ≡ true → RATE-ALONE ≡ formOf (named word) n
+  rate-alone e t et t1 = rw (e, ← et, t1)
+
+  pub rate-long : word ≡ Rate → (t : Bool) → t ≡ eqb n 2 → t ≡ false → RATE ≡ formOf (named word) n
+  rate-long e t et t0 = rw (e, ← et, t0)
 
 pub byte-one : (f : List ℕ) → length f ≡ 1 → getD f 0 0 ≡ onlyByte f
 byte-one [] e = refl

@@ -5,13 +5,14 @@ ghost use mathlib.Core.Path.{_≡_};
 ghost use Rattle.model.specs.Record.{fieldCount, firstNumber, allowsMinus};
 ghost use Rattle.form.specs.Word.{named};
 
-// "RATE, year, sixty rates: 62 fields." "PATT ..: 23 or 7 fields." "YEAR ..: 36 or 12 fields." F-2: "SUM has two fields".
+// "RATE, year, sixty rates: 62 fields." "PATT ..: 23 or 7 fields." "YEAR ..: 36 or 12 fields." F-2: "SUM has two fields". F-4: MIDT, year, month, rate; and "RATE with a year alone".
 pub fn field_count(word: Word, letter: u8) -> usize
     ensures { λ r. ⌜ r ≡ fieldCount (named word) letter ⌝ }
 {
     match word {
         Word::Line => 3,
         Word::Rate => 62,
+        Word::RateAlone => 2,
         Word::Patt => {
             if is_ten_year(letter) {
                 return 23;
@@ -25,6 +26,7 @@ pub fn field_count(word: Word, letter: u8) -> usize
             12
         }
         Word::Sum => 2,
+        Word::Midt => 4,
         Word::Other => 0,
     }
 }
@@ -36,9 +38,11 @@ pub fn first_number(word: Word) -> usize
     match word {
         Word::Line => 2,
         Word::Rate => 1,
+        Word::RateAlone => 1,
         Word::Patt => 2,
         Word::Year => 2,
         Word::Sum => 2,
+        Word::Midt => 1,
         Word::Other => 1,
     }
 }
@@ -50,9 +54,11 @@ pub fn allows_minus(word: Word, place: usize) -> bool
     match word {
         Word::Line => false,
         Word::Rate => false,
+        Word::RateAlone => false,
         Word::Patt => false,
         Word::Year => place % 3 == 0,
         Word::Sum => false,
+        Word::Midt => false,
         Word::Other => false,
     }
 }

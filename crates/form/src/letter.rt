@@ -35,9 +35,11 @@ pub fn is_lettered(word: Word, letter: u8) -> bool
     match word {
         Word::Line => is_covered(letter),
         Word::Rate => true,
+        Word::RateAlone => true,
         Word::Patt => is_covered(letter),
         Word::Year => is_covered(letter),
         Word::Sum => is_covered(letter),
+        Word::Midt => true,
         Word::Other => false,
     }
 }

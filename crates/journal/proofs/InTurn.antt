@@ -5,16 +5,18 @@ use mathlib.Core.Path.{_≡_, refl, sym, ap, _∙_}
 use mathlib.Core.Option as option
 use Prim.Native.Nat.{ℕ}
 use lib.ListN.{length}
-use Rattle.model.specs.Answer.{Answer, summed}
-use Rattle.model.specs.Call.{totals}
+use Rattle.model.specs.Answer.{Answer, rated, summed}
+use Rattle.model.specs.Call.{totals, setRateFromRegister}
 use Rattle.model.specs.Question.{firstNo}
+use Rattle.model.specs.Rate.{rateOf}
 use Rattle.model.specs.Book as model
 use Rattle.model.specs.Step as model-step
 use Rattle.model.specs.Step.{Request, asked, questions, step}
 use Rattle.model.specs.Run.{after}
-use Rattle.model.specs.History.{accepted, yearsIn, paidIn, lossesIn}
+use Rattle.model.specs.History.{accepted, takenIn, yearsIn, paidIn, lossesIn}
 use Rattle.model.proofs.Demand.{demand}
 use Rattle.model.proofs.Totals.{sum-prints}
+use Rattle.model.proofs.Register.{rate-prints}
 use Rattle.state.specs.declared.book.Book.{Book}
 use Rattle.state.specs.View.{view, emptyBook, emptyStore}
 use Rattle.state.proofs.EmptyBook.{empty-shown}
@@ -78,3 +80,11 @@ pub sum-answered : (requests : List Request) (answers : List Answer) (book : Boo
 sum-answered requests answers book store done request letter e passed r later does =
     let c = come requests answers book store done in
     ap (λ (o : model-step.Outcome). o .answer) (does .outcome ∙ ap (λ (b : model.Book). step b request) (c .met) ∙ sum-prints requests request letter e (rw (c .met) at passed))
+
+-- F-4: what the code answers an accepted RATE with a year alone after the list: the rate of its sixty accepted MIDTs
+pub rate-answered : (requests : List Request) (answers : List Answer) (book : Book) (store : List ℕ) → DoneInTurn requests answers book store
+    → (request : Request) (year : ℕ) → asked request ≡ setRateFromRegister year → firstNo (questions (view book store) request) ≡ option.none → (r : Outcome) (later : List ℕ) → Does book request store r later
+    → answered (r .answer) later ≡ rated year (rateOf (takenIn (accepted model.empty requests) year))
+rate-answered requests answers book store done request year e passed r later does =
+    let c = come requests answers book store done in
+    ap (λ (o : model-step.Outcome). o .answer) (does .outcome ∙ ap (λ (b : model.Book). step b request) (c .met) ∙ rate-prints requests request year e (rw (c .met) at passed))

@@ -9,7 +9,7 @@ use native.Mathlib.Numerals.{add-one}
 use lib.IntN.{ℤ, pos}
 use lib.ListN.{length, take, drop, getD, replicate}
 use Rattle.model.specs.Letter.{ages}
-use Rattle.model.specs.Call.{declare, setRate, addPattern, closeYear, totals}
+use Rattle.model.specs.Call.{declare, setRate, addPattern, closeYear, totals, registerMonth, setRateFromRegister}
 use Rattle.model.specs.Step.{asBytes, asNumbers}
 use Rattle.record.specs.declared.request.Request.{Request}
 use Rattle.record.specs.declared.request.Asked.{Asked}
@@ -49,6 +49,12 @@ module _ (line : List ℕ) (request : Request) (minus : List Bool) (sizes : List
 
       pub sets-rate : request .asked ≡ asked.SetRate → Does book (asNumbers (setRate (getD sizes 1 0) (take 60 (drop 2 sizes)))) store r later → Does book (asBytes line) store r later
       sets-rate e h = line-asks line book store r (setRate (getD sizes 1 0) (take 60 (drop 2 sizes))) (told asked.SetRate e) later h
+
+      pub registers-month : request .asked ≡ asked.RegisterMonth → Does book (asNumbers (registerMonth (getD sizes 1 0) (getD sizes 2 0) (getD sizes 3 0))) store r later → Does book (asBytes line) store r later
+      registers-month e h = line-asks line book store r (registerMonth (getD sizes 1 0) (getD sizes 2 0) (getD sizes 3 0)) (told asked.RegisterMonth e) later h
+
+      pub sets-rate-alone : request .asked ≡ asked.SetRateFromRegister → Does book (asNumbers (setRateFromRegister (getD sizes 1 0))) store r later → Does book (asBytes line) store r later
+      sets-rate-alone e h = line-asks line book store r (setRateFromRegister (getD sizes 1 0)) (told asked.SetRateFromRegister e) later h
 
       pub adds-pattern : request .asked ≡ asked.AddPattern → Does book (asNumbers (patternOf (request .letter) sizes)) store r later → Does book (asBytes line) store r later
       adds-pattern e h = line-asks line book store r (patternOf (request .letter) sizes) (told asked.AddPattern e) later h

@@ -7,6 +7,8 @@ use ledger::declare::declare;
 use ledger::refuse::refuse;
 use ledger::set_rate::set_rate;
 use letters::letter::ages;
+use mid_term::register_month::register_month;
+use mid_term::set_rate_from_register::set_rate_from_register;
 use patterns::add_pattern::add_pattern;
 use record::read::read;
 use record::request::Asked;
@@ -35,6 +37,8 @@ pub fn apply(book: Book, store: &mut Store, line: &[u8]) -> Outcome
         Asked::AddPattern => apply_pattern(book, store, letter, &sizes),
         Asked::CloseYear => apply_year(book, store, letter, &minus, &sizes),
         Asked::Totals => totals(book, store, letter),
+        Asked::RegisterMonth => register_month(book, store, sizes[1], sizes[2], sizes[3]),
+        Asked::SetRateFromRegister => set_rate_from_register(book, store, sizes[1]),
     }
 }
 

@@ -6,10 +6,12 @@ use Prim.Native.Nat.{ℕ}
 use native.Mathlib.Omega.{arith}
 use borrow.Author.Tests.{leb-true}
 use Rattle.model.specs.Basics.{if_then_else_}
-use Rattle.model.specs.Kind.{isRate, isYear}
+use Rattle.model.specs.Kind.{isRate, isYear, isRegisterYear, isMonth}
 use Rattle.kinds.specs.Factor.{isFactor, maybeFactor, factorNumber}
 use Rattle.kinds.specs.Rate.{maybeRate, rateNumber}
 use Rattle.kinds.specs.Year.{maybeYear}
+use Rattle.kinds.specs.RegisterYear.{maybeRegisterYear}
+use Rattle.kinds.specs.Month.{maybeMonth}
 use Rattle.kinds.specs.declared.factor.Factor.{Factor}
 use Rattle.kinds.specs.declared.factor.MaybeFactor.{MaybeFactor}
 use Rattle.kinds.specs.declared.factor.MaybeFactor.the-variants as factor
@@ -19,6 +21,12 @@ use Rattle.kinds.specs.declared.rate.MaybeRate.the-variants as rate
 use Rattle.kinds.specs.declared.year.Year.{Year}
 use Rattle.kinds.specs.declared.year.MaybeYear.{MaybeYear}
 use Rattle.kinds.specs.declared.year.MaybeYear.the-variants as year
+use Rattle.kinds.specs.declared.register_year.RegisterYear.{RegisterYear}
+use Rattle.kinds.specs.declared.register_year.MaybeRegisterYear.{MaybeRegisterYear}
+use Rattle.kinds.specs.declared.register_year.MaybeRegisterYear.the-variants as register-year
+use Rattle.kinds.specs.declared.month.Month.{Month}
+use Rattle.kinds.specs.declared.month.MaybeMonth.{MaybeMonth}
+use Rattle.kinds.specs.declared.month.MaybeMonth.the-variants as month
 
 -- x is m where the test p holds, and `outside` where it does not
 module _ {M : Type 0} (outside : M) where
@@ -52,6 +60,26 @@ module _ (n : ℕ) (x : MaybeYear) (ex : x ≡ maybeYear n) where
 
   pub year-outside : x ≡ year.Outside → isYear n ≡ false
   year-outside e = left year.Outside (isYear n) (year.Within (record { value = n })) x ex (λ t. year-apart (record { value = n })) e
+
+register-year-apart : (v : RegisterYear) → register-year.Within v ≡ register-year.Outside → ⊥
+register-year-apart v e = let z : _≡_ {A = ℕ} 0 1 = cc in omega arith
+
+module _ (n : ℕ) (x : MaybeRegisterYear) (ex : x ≡ maybeRegisterYear n) where
+  pub register-year-within : (v : RegisterYear) → x ≡ register-year.Within v → isRegisterYear n ≡ true
+  register-year-within v e = taken register-year.Outside (isRegisterYear n) (register-year.Within (record { value = n })) x ex (register-year.Within v) (register-year-apart v) e .0
+
+  pub register-year-outside : x ≡ register-year.Outside → isRegisterYear n ≡ false
+  register-year-outside e = left register-year.Outside (isRegisterYear n) (register-year.Within (record { value = n })) x ex (λ t. register-year-apart (record { value = n })) e
+
+month-apart : (v : Month) → month.Within v ≡ month.Outside → ⊥
+month-apart v e = let z : _≡_ {A = ℕ} 0 1 = cc in omega arith
+
+module _ (n : ℕ) (x : MaybeMonth) (ex : x ≡ maybeMonth n) where
+  pub month-within : (v : Month) → x ≡ month.Within v → isMonth n ≡ true
+  month-within v e = taken month.Outside (isMonth n) (month.Within (record { value = n })) x ex (month.Within v) (month-apart v) e .0
+
+  pub month-outside : x ≡ month.Outside → isMonth n ≡ false
+  month-outside e = left month.Outside (isMonth n) (month.Within (record { value = n })) x ex (λ t. month-apart (record { value = n })) e
 
 factor-apart : (v : Factor) → factor.Within v ≡ factor.Outside → ⊥
 factor-apart v e = let z : _≡_ {A = ℕ} 0 1 = cc in omega arith

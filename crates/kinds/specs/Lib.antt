@@ -1,3 +1,5 @@
 pub mod Factor
+pub mod Month
 pub mod Rate
+pub mod RegisterYear
 pub mod Year

@@ -1,4 +1,6 @@
-// The kinds of value of document 01, each with its limits.
+// The kinds of value of documents 01 and 02, each with its limits.
 pub mod factor;
+pub mod month;
 pub mod rate;
+pub mod register_year;
 pub mod year;

@@ -26,6 +26,7 @@ use Rattle.ledger.specs.Answer.{refusedOf, acceptedOf}
 use Rattle.ledger.specs.Does.{bookSettled, storeSettled, Settled, Does}
 use Rattle.ledger.proofs.Settling.{refused, limits-refused}
 use Rattle.state.proofs.Limited.{new-limited}
+use Rattle.state.proofs.LinePieces.{register-same}
 use Rattle.state.proofs.TotalPieces.{zeros-where-none-closed}
 use Rattle.state.proofs.Views.{lines-put, declared-is}
 
@@ -44,7 +45,7 @@ module _ (book : Book) (letter opening : ℕ) (sound : Sound (declare letter ope
   declared d n later el er =
       rw (first-is false d, er, el)
       record {
-        outcome = rw (lines-put store letter (newLine opening) (sound .letter) n (new-limited letter opening (leb-true opening 100000000000 (sound .limits))), zeros-where-none-closed store letter);
+        outcome = rw (register-same store letter (newLine opening) (sound .letter) n, lines-put store letter (newLine opening) (sound .letter) n (new-limited letter opening (leb-true opening 100000000000 (sound .limits))), zeros-where-none-closed store letter);
         own = refl;
         lent = refl;
       }

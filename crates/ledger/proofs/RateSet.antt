@@ -15,7 +15,8 @@ use Rattle.model.specs.HalfYear.{halfYear}
 use Rattle.model.specs.Rate.{rateOf}
 use Rattle.model.specs.Call.{setRate}
 use Rattle.model.specs.Question.{isWithinLimits, bookQuestions, firstNo}
-use Rattle.model.specs.Step.{asNumbers, accept}
+use Rattle.model.specs.Answer.{rated}
+use Rattle.model.specs.Step.{asNumbers, withRate, accept}
 use Rattle.model.proofs.Lists.{and-left}
 use Rattle.kinds.specs.declared.rate.Rate.{Rate}
 use Rattle.kinds.specs.Rate.{rateNumber}
@@ -36,10 +37,11 @@ use Rattle.state.specs.Hints.{withHintOf}
 use Rattle.state.specs.Rates.{ratesOf, withRateOf}
 use Rattle.state.specs.Store.{size}
 use Rattle.state.specs.View.{view}
-use Rattle.ledger.specs.Answer.{refusedOf, acceptedOf}
+use Rattle.ledger.specs.Answer.{outcomeOf, refusedOf, acceptedOf}
 use Rattle.ledger.specs.Does.{bookSettled, storeSettled, Settled, Does}
-use Rattle.ledger.specs.SetRate.{Averaged}
+use Rattle.ledger.specs.SetRate.{Averaged, GivesRate}
 use Rattle.ledger.proofs.Settling.{refused, count-refused, limits-refused, goes-on}
+use Rattle.state.proofs.HintPieces.{register-same}
 use Rattle.state.proofs.RatePlaces.{rates-put}
 use Rattle.state.proofs.Views.{hint-unseen}
 
@@ -51,6 +53,15 @@ is-rate : (a b : Bool) (n : ℕ) (rate : Rate) → by-tests a b n ≡ mean.Is ra
 is-rate true true n rate e = (refl, refl, cc)
 is-rate true false n rate e = let z : _≡_ {A = ℕ} 0 1 = cc in absurd (omega arith)
 is-rate false b n rate e = let z : _≡_ {A = ℕ} 0 1 = cc in absurd (omega arith)
+
+-- sixty rates have a mean, and a mean is their rate
+pub mean-is : (months : List ℕ) → eqb (length months) 60 ≡ true → all isRate months ≡ true → meanOf months ≡ mean.Is (record { value = rateOf months })
+mean-is months sixty rates = rw (sixty, rates)
+
+pub mean-number : (months : List ℕ) (rate : Rate) → eqb (length months) 60 ≡ true → all isRate months ≡ true → meanOf months ≡ mean.Is rate → rateNumber rate ≡ rateOf months
+mean-number months rate sixty rates e =
+    let same = is-rate (eqb (length months) 60) (all isRate months) (rateOf months) rate e .2 in
+    rw same (omega (arith, sum-small months rates, eqb-true (length months) 60 sixty))
 
 and-false : (a b : Bool) → b ≡ false → (a && b) ≡ false
 and-false true b e = e
@@ -95,6 +106,16 @@ module _ (year : ℕ) (months : List ℕ) (m : Mean) (em : m ≡ meanOf months) 
   pub months-refused : (question : Refusal) → m ≡ mean.Refused question → (book : Book) (store : List ℕ) (r : Outcome) → r ≡ refusedOf book question → Does book (asNumbers (setRate year months)) store r store
   months-refused question e = by-first sixty rates refl refl question (sym em ∙ e)
 
+-- a RATE that is accepted, in either form, as the view shows it
+pub rate-shown : (book : Book) (year rate : ℕ) → isYear year ≡ true → rate ≤ 2500 → length (book .rates) ≡ 113 → (store : List ℕ) (r : Outcome) (later : List ℕ) → GivesRate book year rate store r later
+    → outcomeOf r later ≡ record { book = withRate (view book store) year rate; answer = rated year rate }
+rate-shown book year rate y few len store r later g =
+    rw (g .outcome, g .lent, register-same store year (halfYear rate) y (g .long), hint-unseen store year (halfYear rate) y (g .long), rates-put (book .rates) year rate len y few)
+
+pub rate-left : (book : Book) (year rate : ℕ) (store : List ℕ) (hint n : ℕ) (rated-book : Book) (r : Outcome) (later : List ℕ) → length store ≡ size → hint ≡ halfYear rate → later ≡ withHintOf store year hint → rated-book ≡ withRateOf book year rate → n ≡ rate
+    → r ≡ acceptedOf rated-book (answer.Rate year n) → GivesRate book year rate store r later
+rate-left book year rate store hint n rated-book r later long eh el eb en er = record { long = long; outcome = rw (er, eb, en); lent = rw (el, eh) }
+
 -- question 7
 set-year : (year rate : ℕ) (months : List ℕ) → Averaged year rate months → isYear year ≡ true
 set-year year rate months pre = and-left (isYear year) (all isRate months) (pre .sound .limits)
@@ -109,14 +130,13 @@ module _ (book : Book) (year : ℕ) (rate : Rate) (months : List ℕ) (pre : Ave
   rate-given old e er =
       refused book refusal.AlreadyGiven (firstNo (bookQuestions (view book store) (setRate year months))) (setRate year months) store r (first-is (some (rateNumber old)) (sym eb ∙ ap yearRate e)) er
 
-  pub rate-set : before ≡ year-rate.Missing → length (book .rates) ≡ 113 → length store ≡ size → (hint : ℕ) → hint ≡ halfYear (rateNumber rate) → (later : List ℕ) → later ≡ withHintOf store year hint → (rated : Book) → rated ≡ withRateOf book year (rateNumber rate)
-      → (n : ℕ) → n ≡ rateNumber rate → r ≡ acceptedOf rated (answer.Rate year n) → Settled book (setRate year months) store r later
+  pub rate-set : before ≡ year-rate.Missing → length (book .rates) ≡ 113 → (later : List ℕ) → GivesRate book year (rateNumber rate) store r later → Settled book (setRate year months) store r later
   unfolding accept bookSettled storeSettled
-  rate-set e len cells hint eh later el rated ed n en er =
+  rate-set e len later g =
       let y : isYear year ≡ true = set-year year (rateNumber rate) months pre in
-      rw (first-is none (sym eb ∙ ap yearRate e), er, ed, en, el, eh)
+      rw (first-is none (sym eb ∙ ap yearRate e))
       record {
-        outcome = rw (hint-unseen store year (halfYear (rateNumber rate)) y cells, rates-put (book .rates) year (rateNumber rate) len y (omega arith), pre .mean);
-        own = rw (pre .mean);
-        lent = rw (pre .mean);
+        outcome = rate-shown book year (rateNumber rate) y (omega arith) len store r later g ∙ rw (pre .mean);
+        own = ap (λ (o : Outcome). o .book) (g .outcome) ∙ rw (pre .mean);
+        lent = g .lent ∙ rw (pre .mean);
       }

@@ -24,6 +24,7 @@ answered (answer.Fact letter year) store =
     model.fact letter year (map published (pattern .factors)) (published (pattern .composite))
 answered (answer.Tax letter year paid opening closing loss) store = model.tax letter year paid opening closing loss
 answered (answer.Sum letter years paid losses) store = model.summed letter years paid losses
+answered (answer.MidTerm year month rate) store = model.registered year month rate
 answered (answer.No refusal) store = model.refusal (numberOf refusal)
 
 -- the model's outcome that an outcome and the later store are

@@ -31,6 +31,11 @@ pub enum Answer {
         losses: i64,
     },
     No(Refusal),
+    MidTerm {
+        year: u64,
+        month: u64,
+        rate: u64,
+    },
 }
 
 // The later book and the answer.

@@ -2,5 +2,6 @@
 pub mod accept;
 pub mod answer;
 pub mod declare;
+pub mod give_rate;
 pub mod refuse;
 pub mod set_rate;

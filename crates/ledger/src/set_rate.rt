@@ -1,9 +1,7 @@
 // "RATE, year, sixty rates"
-use crate::accept::accept;
-use crate::answer::Answer;
 use crate::answer::Outcome;
+use crate::give_rate::give_rate;
 use crate::refuse::refuse;
-use half_year::half_year;
 use kinds::rate::Rate;
 use kinds::year::is_year;
 use rates::rate::Mean;
@@ -11,10 +9,8 @@ use rates::rate::mean_rate;
 use refusal::Refusal;
 use state::book::Book;
 use state::store::Store;
-use year_rates::hints::keep_hint;
 use year_rates::rates::YearRate;
 use year_rates::rates::rate_of;
-use year_rates::rates::with_rate;
 ghost use Rattle.model.specs.Call.{setRate};
 ghost use Rattle.model.specs.Step.{asNumbers};
 ghost use Rattle.kinds.specs.Rate.{rateNumber};
@@ -45,16 +41,6 @@ fn ask_given(book: Book, store: &mut Store, year: u64, rate: Rate, months: &[u64
     let before = rate_of(book, year);
     match before {
         YearRate::Given(_) => refuse(book, Refusal::AlreadyGiven),
-        YearRate::Missing => {
-            keep_hint(store, year, half_year(rate));
-            let later = with_rate(book, year, rate);
-            accept(
-                later,
-                Answer::Rate {
-                    year,
-                    rate: rate.number(),
-                },
-            )
-        }
+        YearRate::Missing => give_rate(book, store, year, rate),
     }
 }

@@ -16,14 +16,14 @@ use Rattle.model.specs.History.{Entry, paymentsIn, keptIn, paidIn, losse
 use Rattle.model.proofs.Lists.{some≢none, not-given, put-all}
 use Rattle.model.proofs.Entries.{with, payments-with, kept-with, openings-with, closed-with, losses-with, paid-with, Fresh}
 use Rattle.model.proofs.Sums.{sums-same}
-use Rattle.model.proofs.Invariant.{LineHolds, Invariant, aside, entries-with, rates-as}
+use Rattle.model.proofs.Invariant.{LineHolds, Invariant, aside, entries-with, rates-as, months-as}
 
 module _ (h : List Entry) (b : Book) (letter amount : ℕ) (i : Invariant h b) (q7 : not (given (b .lines letter .opening)) ≡ true) where
   abbrev e : Entry
   e = record { before = b; call = declare letter amount; answer = declared letter amount; later = withLine b letter (declaredLine amount) }
 
   fresh : Fresh h e
-  fresh = record { rates = λ y r s. refl; patterns = λ l y pay s. refl }
+  fresh = record { rates = λ y r s. refl; months = λ y m r s. refl; standing = i .entries; patterns = λ l y pay s. refl }
 
   holds : LineHolds (with h e) letter (declaredLine amount)
   holds =
@@ -51,8 +51,10 @@ module _ (h : List Entry) (b : Book) (letter amount : ℕ) (i : Invariant h b) (
   pub accept-line : Invariant (with h e) (withLine b letter (declaredLine amount))
   accept-line =
       record {
-        rates = rates-as h b e i (λ y. refl);
+        rates = rates-as h b e i fresh (λ y. refl);
+        months = months-as h b e i (λ y m. refl);
+        months-within = i .months-within;
         lines = put-all (LineHolds (with h e)) (b .lines) letter (declaredLine amount) holds
             (λ j ne. aside h e fresh j (b .lines j) (record { no-opening = rw ne; no-closing = refl; no-payments = λ y. refl; no-kept = refl; no-year = refl; no-loss = refl; no-paid = refl; no-paid-answered = refl }) (i .lines j));
-        entries = entries-with h e fresh (i .entries) tt;
+        entries = entries-with h e fresh tt;
       }

@@ -27,7 +27,7 @@ use Rattle.model.proofs.Near.{composite-near}
 use Rattle.model.proofs.Ages.{Sized, schedule-sized, ages-positive, kept-count, kept-near, worked-near}
 use Rattle.model.proofs.Entries.{with, rates-with, payments-with, kept-with, openings-with, closed-with, losses-with, paid-with, Fresh}
 use Rattle.model.proofs.Sums.{sums-same}
-use Rattle.model.proofs.Invariant.{Reached, LineHolds, Invariant, aside, all-near-with, entries-with, rates-as}
+use Rattle.model.proofs.Invariant.{Reached, LineHolds, Invariant, aside, all-near-with, entries-with, rates-as, months-as}
 
 -- a pattern that is in turn is of a later year than any before it
 after-last : (last : Option Kept) (closed : Option Closed) (year : ℕ) → follows last closed year ≡ true → (y : ℕ) → Reached last y → y < year
@@ -86,13 +86,13 @@ module _ (h : List Entry) (b : Book) (letter year : ℕ) (paid incurred : List �
   fresh-at l y ps false t el ey p = refl
 
   fresh : Fresh h e
-  fresh = record { rates = λ y r s. refl; patterns = λ l y ps s. fresh-at l y ps (eqb l letter) (eqb y year) refl refl s }
+  fresh = record { rates = λ y r s. refl; months = λ y m r s. refl; standing = i .entries; patterns = λ l y ps s. fresh-at l y ps (eqb l letter) (eqb y year) refl refl s }
 
   source : Given (with h e) letter year rate pay
   source =
       let s = is-given (b .rates year) q9 in
       record {
-        from-rate = rw (rates-with h e year, i .rates year, s .1);
+        from-rate = rw (rates-with h e fresh year, i .rates year, s .1);
         from-pattern = rw (payments-with h e letter year, first-time (paymentsIn h letter year) refl, eq-eqb letter letter refl, eq-eqb year year refl);
       }
 
@@ -145,8 +145,10 @@ module _ (h : List Entry) (b : Book) (letter year : ℕ) (paid incurred : List �
   pub accept-pattern : Invariant (with h e) (withLine b letter line)
   accept-pattern =
       record {
-        rates = rates-as h b e i (λ y. refl);
+        rates = rates-as h b e i fresh (λ y. refl);
+        months = months-as h b e i (λ y m. refl);
+        months-within = i .months-within;
         lines = put-all (LineHolds (with h e)) (b .lines) letter line line-holds
             (λ j ne. aside h e fresh j (b .lines j) (record { no-opening = refl; no-closing = refl; no-payments = λ y. rw ne; no-kept = rw ne; no-year = refl; no-loss = refl; no-paid = refl; no-paid-answered = refl }) (i .lines j));
-        entries = entries-with h e fresh (i .entries) (rw (eq-eqb letter letter refl) pattern-holds);
+        entries = entries-with h e fresh (rw (eq-eqb letter letter refl) pattern-holds);
       }

@@ -22,7 +22,7 @@ use Rattle.model.specs.Demand.{YearHolds}
 use Rattle.model.proofs.Lists.{some≢none, is-given, put-all}
 use Rattle.model.proofs.Entries.{with, payments-with, kept-with, openings-with, closed-with, losses-with, paid-with, Fresh, entry-with}
 use Rattle.model.proofs.Sums.{sums-more}
-use Rattle.model.proofs.Invariant.{LineHolds, Invariant, aside, all-near-with, entries-with, rates-as}
+use Rattle.model.proofs.Invariant.{LineHolds, Invariant, aside, all-near-with, entries-with, rates-as, months-as}
 use Rattle.model.proofs.Rows.{rows-hold}
 use Rattle.model.proofs.YearRows.{rows-count, paid-total-is}
 
@@ -65,7 +65,7 @@ module _ (h : List Entry) (b : Book) (letter year : ℕ) (paid : List ℤ) (unpa
       }
 
   fresh : Fresh h e
-  fresh = record { rates = λ y r s. refl; patterns = λ l y pay s. refl }
+  fresh = record { rates = λ y r s. refl; months = λ y m r s. refl; standing = i .entries; patterns = λ l y pay s. refl }
 
   year-holds : YearHolds h (b .lines letter) (e .answer) letter year rows
   year-holds =
@@ -96,8 +96,10 @@ module _ (h : List Entry) (b : Book) (letter year : ℕ) (paid : List ℤ) (unpa
   pub accept-year : Invariant (with h e) (withLine b letter line)
   accept-year =
       record {
-        rates = rates-as h b e i (λ y. refl);
+        rates = rates-as h b e i fresh (λ y. refl);
+        months = months-as h b e i (λ y m. refl);
+        months-within = i .months-within;
         lines = put-all (LineHolds (with h e)) (b .lines) letter line line-holds
             (λ j ne. aside h e fresh j (b .lines j) (record { no-opening = refl; no-closing = rw ne; no-payments = λ y. refl; no-kept = refl; no-year = rw ne; no-loss = rw ne; no-paid = rw ne; no-paid-answered = rw ne }) (i .lines j));
-        entries = entries-with h e fresh (i .entries) (entry-with h e fresh b (e .answer) (e .later) (e .call) year-holds);
+        entries = entries-with h e fresh (entry-with h e fresh b (e .answer) (e .later) (e .call) year-holds);
       }

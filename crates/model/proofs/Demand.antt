@@ -1,7 +1,7 @@
 -- Demand 3, proved of every list of requests from the empty book; and of the lines of every input.
 -- Assumes nothing.
 use mathlib.Core.Path.{_≡_, refl, sym, ap, _∙_, _≡⟨_⟩_, _∎}
-use mathlib.Core.Bool.{Bool}
+use mathlib.Core.Bool.{Bool, _&&_}
 use mathlib.Core.List.{List, [], _∷_, _++_, append-assoc, append-nil}
 use mathlib.Core.Option.{Option, none, some}
 use Prim.Native.Nat.{ℕ}
@@ -10,13 +10,14 @@ use lib.Dec.{eqb}
 use lib.ListN.{length}
 use lib.Seq.{take-nil}
 use lib.IntN.{ℤ, pos, negℤ, _+ℤ_, _-ℤ_, +ℤ-assoc, +ℤ-comm, +ℤ-negℤ-cancel}
+use Rattle.model.specs.Kind.{isRate, isRegisterYear, isMonth}
 use Rattle.model.specs.Letter.{ages}
 use Rattle.model.specs.Book.{Book, Totals, Line, Closed, latest, empty}
-use Rattle.model.specs.Call.{Call, declare, setRate, addPattern, closeYear, totals}
+use Rattle.model.specs.Call.{Call, declare, setRate, addPattern, closeYear, totals, registerMonth, setRateFromRegister}
 use Rattle.model.specs.Question.{isYearOf, isOpen, firstNo}
 use Rattle.model.specs.Step.{Request, asked, questions, refuse, accept, step}
 use Rattle.model.specs.Run.{after, recordsOf}
-use Rattle.model.specs.History.{Entry, entry, enter, accepted, listed, ratesIn, paymentsIn, keptIn, openingsIn, yearsIn, paidIn, paidAnsweredIn, lossesIn, closedIn}
+use Rattle.model.specs.History.{Entry, entry, enter, accepted, listed, monthsIn, ratesIn, paymentsIn, keptIn, openingsIn, yearsIn, paidIn, paidAnsweredIn, lossesIn, closedIn}
 use Rattle.model.specs.Demand.{LossesAddUp, Reconciles, Sums, TotalsHold, Demand}
 use Rattle.model.proofs.Lists.{some≢none, cons≢nil, and-left, and-right}
 use Rattle.model.proofs.Steps.{step-is}
@@ -25,7 +26,8 @@ use Rattle.model.proofs.Ages.{length-ages-of}
 use Rattle.model.proofs.Entries.{with}
 use Rattle.model.proofs.Invariant.{LineHolds, Invariant}
 use Rattle.model.proofs.AcceptLine.{accept-line}
-use Rattle.model.proofs.AcceptRate.{accept-rate}
+use Rattle.model.proofs.AcceptRate.{accept-rate, accept-rate-from-register}
+use Rattle.model.proofs.AcceptMonth.{accept-month}
 use Rattle.model.proofs.AcceptPattern.{accept-pattern}
 use Rattle.model.proofs.AcceptYear.{accept-year}
 use Rattle.model.proofs.AcceptTotals.{accept-totals}
@@ -47,10 +49,12 @@ accept-holds h b (addPattern letter year paid incurred) i p =
 accept-holds h b (closeYear letter year paid unpaid tabular) i p =
     accept-year h b letter year paid unpaid tabular i (p .lengths) (p .declared) (and-left (isYearOf (latest (b .lines letter .kept)) year) (isOpen (b .lines letter .closed) year) (p .turn)) (p .patterns)
 accept-holds h b (totals letter) i p = accept-totals h b letter _ _ _ i
+accept-holds h b (registerMonth year month rate) i p = accept-month h b year month rate i (and-right (isRegisterYear year && isMonth month) (isRate rate) (p .limits)) (p .to-be-given)
+accept-holds h b (setRateFromRegister year) i p = accept-rate-from-register h b year i (p .to-be-given) (p .months)
 
 refuse-holds : (h : List Entry) (b : Book) (question : ℕ) → Invariant h b → Invariant h (refuse b question .book)
 unfolding refuse
-refuse-holds h b question i = record { rates = i .rates; lines = i .lines; entries = i .entries }
+refuse-holds h b question i = record { rates = i .rates; months = i .months; months-within = i .months-within; lines = i .lines; entries = i .entries }
 
 -- the list, a request at a time: what holds of the entries so far holds of them with those of the rest
 one : (h : List Entry) (b : Book) (r : Request) (rs : List Request) → Invariant h b → ((h : List Entry) (b : Book) → Invariant h b → Invariant (h ++ accepted b rs) (after b rs))
@@ -83,8 +87,12 @@ no-line letter =
     }
 
 none-yet : Invariant [] empty
-unfolding ratesIn
-none-yet = record { rates = λ year. refl; lines = no-line; entries = tt }
+unfolding monthsIn ratesIn
+none-yet = record { rates = λ year. refl; months = λ year month. refl; months-within = λ year month. refl; lines = no-line; entries = tt }
+
+-- the invariant after any list
+pub stands : (requests : List Request) → Invariant (accepted empty requests) (after empty requests)
+stands requests = all requests [] empty none-yet
 
 -- the losses, from the invariant's balance
 losses-add-up : (h : List Entry) (letter : ℕ) (line : Line) (o : Option ℕ) (last : Closed) → line .opening ≡ o → LineHolds h letter line → closedIn h letter ≡ some last → LossesAddUp h letter (last .closing)
@@ -125,13 +133,15 @@ pub demand : (requests : List Request) → Demand requests
 demand requests =
     let h = accepted empty requests in
     let b = after empty requests in
-    let i = all requests [] empty none-yet in
+    let i = stands requests in
     record {
       entries = i .entries;
       patterns = λ letter. i .lines letter .patterns;
       kept = λ letter. i .lines letter .kept;
       losses = λ letter last s. losses-add-up h letter (b .lines letter) (b .lines letter .opening) last refl (i .lines letter) s;
       closed = λ letter. i .lines letter .closed;
+      rates = i .rates;
+      register = i .months;
       totals = λ letter. totals-hold h letter (b .lines letter) (i .lines letter);
     }
 

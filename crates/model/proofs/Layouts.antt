@@ -12,8 +12,8 @@ use Rattle.model.specs.Basics.{if_then_else_}
 use Rattle.model.specs.Letter.{ages}
 use Rattle.model.specs.Input.{push}
 use Rattle.model.specs.Field.{fields, field}
-use Rattle.model.specs.Record.{Word, LINE, RATE, PATT, YEAR, SUM, OTHER}
-use Rattle.model.proofs.Widths.{FieldKind, word, letter, opening, year, rate, amount, paid, fits, width, at-most-width}
+use Rattle.model.specs.Record.{Word, LINE, RATE, RATE-ALONE, PATT, YEAR, SUM, MIDT, OTHER}
+use Rattle.model.proofs.Widths.{FieldKind, word, letter, opening, year, registerYear, month, rate, amount, paid, fits, width, at-most-width}
 
 -- the bytes of the fields, and one more for each
 abbrev pub spread : List (List ℕ) → ℕ
@@ -46,9 +46,11 @@ pub record Layout : Type 0 where
 abbrev pub layout : Word → ℕ → Layout
 layout LINE byte = record { front = word ∷ letter ∷ opening ∷ []; group = []; times = 0 }
 layout RATE byte = record { front = word ∷ year ∷ []; group = rate ∷ []; times = 60 }
+layout RATE-ALONE byte = record { front = word ∷ year ∷ []; group = []; times = 0 }
 layout PATT byte = record { front = word ∷ letter ∷ year ∷ []; group = amount ∷ amount ∷ []; times = ages byte }
 layout YEAR byte = record { front = word ∷ letter ∷ year ∷ []; group = paid ∷ amount ∷ amount ∷ []; times = suc (ages byte) }
 layout SUM byte = record { front = word ∷ letter ∷ []; group = []; times = 0 }
+layout MIDT byte = record { front = word ∷ registerYear ∷ month ∷ rate ∷ []; group = []; times = 0 }
 layout OTHER byte = record { front = []; group = []; times = 0 }
 
 -- fields of some kinds, from place k on

@@ -1,5 +1,6 @@
 pub mod AcceptLine
 pub mod AcceptPattern
+pub mod AcceptMonth
 pub mod AcceptRate
 pub mod AcceptTotals
 pub mod AcceptYear
@@ -20,9 +21,13 @@ pub mod Lines
 pub mod Lists
 pub mod Longest
 pub mod LongestYear
+pub mod Meets
+pub mod Months
 pub mod Near
 pub mod OldRow
 pub mod Passed
+pub mod Register
+pub mod RegisterSample
 pub mod RowBound
 pub mod Rows
 pub mod Sample
@@ -33,4 +38,5 @@ pub mod Tail
 pub mod Totals
 pub mod Unpaid
 pub mod Widths
+pub mod Window
 pub mod YearRows

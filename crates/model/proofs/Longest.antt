@@ -14,8 +14,8 @@ use Rattle.model.specs.Basics.{if_then_else_, all}
 use Rattle.model.specs.Letter.{tenYear, ages}
 use Rattle.model.specs.Field.{fields, field, column, letterIn}
 use Rattle.model.specs.Number.{natural, isWritten, integer}
-use Rattle.model.specs.Kind.{isRate, isYear, isAmount, isPaid}
-use Rattle.model.specs.Record.{Word, LINE, RATE, PATT, YEAR, SUM, OTHER, wordOf, fieldCount, firstNumber, allowsMinus, allWritten, callFrom}
+use Rattle.model.specs.Kind.{isRate, isYear, isRegisterYear, isMonth, isAmount, isPaid}
+use Rattle.model.specs.Record.{Word, LINE, RATE, RATE-ALONE, PATT, YEAR, SUM, MIDT, OTHER, wordOf, isAlone, formOf, recordOf, fieldCount, firstNumber, allowsMinus, allWritten, callFrom}
 use Rattle.model.specs.Question.{longest, hasWord, hasLetter, isWellWritten, isWithinLimits, lineQuestions, firstNo}
 use Rattle.model.proofs.Lists.{true≢false, and-left, and-right, all-yes}
 use Rattle.model.proofs.Ages.{ages-small}
@@ -104,6 +104,23 @@ module _ (fs : List (List ℕ)) where
       let theMonths = numbers RATE fs p isRate natural false 60 1 2 (λ i lt. refl) (omega arith) (omega (arith, p .count)) (and-right yearWithin _ (p .limits)) in
       record { count = p .count; front = (p .word-is, (theYear, tt)); columns = (theMonths, tt) }
 
+  rate-alone-laid : Passes RATE-ALONE fs → Laid (layout RATE-ALONE (letterIn fs)) fs
+  unfolding callFrom
+  rate-alone-laid p =
+      let theYear = number RATE-ALONE fs p false _ 1 refl (omega arith) (omega (arith, p .count)) (p .limits) in
+      record { count = p .count; front = (p .word-is, (theYear, tt)); columns = tt }
+
+  month-laid : Passes MIDT fs → Laid (layout MIDT (letterIn fs)) fs
+  unfolding callFrom
+  month-laid p =
+      let yearWithin : Bool = isRegisterYear (natural (field 1 fs)) in
+      let dateWithin : Bool = yearWithin && isMonth (natural (field 2 fs)) in
+      let first-two : dateWithin ≡ true = and-left dateWithin _ (p .limits) in
+      let theYear = number MIDT fs p false yearWithin 1 refl (omega arith) (omega (arith, p .count)) (and-left yearWithin _ first-two) in
+      let theMonth = number MIDT fs p false _ 2 refl (omega arith) (omega (arith, p .count)) (and-right yearWithin _ first-two) in
+      let theRate = number MIDT fs p false _ 3 refl (omega arith) (omega (arith, p .count)) (and-right dateWithin _ (p .limits)) in
+      record { count = p .count; front = (p .word-is, (theYear, (theMonth, (theRate, tt)))); columns = tt }
+
   pattern-laid : Passes PATT fs → Laid (layout PATT (letterIn fs)) fs
   unfolding callFrom
   pattern-laid p =
@@ -136,27 +153,46 @@ module _ (fs : List (List ℕ)) where
   laid : (w : Word) → hasWord w ≡ true → Passes w fs → Laid (layout w (letterIn fs)) fs
   laid LINE h = line-laid
   laid RATE h = rate-laid
+  laid RATE-ALONE h = rate-alone-laid
   laid PATT h = pattern-laid
   laid YEAR h = year-laid
   laid SUM h = sum-laid
+  laid MIDT h = month-laid
   laid OTHER h = absurd (true≢false (sym h))
 
 -- no layout has room for more than 418 bytes (and the one byte more that `spread` counts)
 layout-short : (w : Word) (byte : ℕ) → let plan = layout w byte in room (plan .front) + plan .times * room (plan .group) ≤ suc longest
 layout-short LINE byte = omega arith
 layout-short RATE byte = omega arith
+layout-short RATE-ALONE byte = omega arith
 layout-short PATT byte = omega (arith, ages-small byte)
 layout-short YEAR byte = omega (arith, ages-small byte)
 layout-short SUM byte = omega arith
+layout-short MIDT byte = omega arith
 layout-short OTHER byte = omega arith
+
+-- a record has a word in whatever form it is
+has-word : (w : Word) (n : ℕ) → hasWord (formOf w n) ≡ hasWord w
+has-word LINE n = refl
+has-word RATE n = by-count (isAlone n)
+  where
+    by-count : (t : Bool) → hasWord (if t then RATE-ALONE else RATE) ≡ true
+    by-count true = refl
+    by-count false = refl
+has-word RATE-ALONE n = refl
+has-word PATT n = refl
+has-word YEAR n = refl
+has-word SUM n = refl
+has-word MIDT n = refl
+has-word OTHER n = refl
 
 -- whatever question 1 asks, a line that passes questions 2 to 6 has at most 418 bytes
 pub at-most-longest : (line : List ℕ) → firstNo (drop 1 (lineQuestions line)) ≡ none → length line ≤ longest
 unfolding lineQuestions
 at-most-longest line e =
     let fs : List (List ℕ) = fields line in
-    let w : Word = wordOf (field 0 fs) in
+    let w : Word = recordOf fs in
     let y = all-yes (drop 1 (lineQuestions line)) e in
     let count = eqb-true (length fs) (fieldCount w (letterIn fs)) (y .1 .1 .0) in
-    let p : Passes w fs = record { word-is = y .0; letter-is = y .1 .0; count = count; written = y .1 .1 .1 .0; limits = y .1 .1 .1 .1 .0 } in
+    let p : Passes w fs = record { word-is = sym (has-word (wordOf (field 0 fs)) (length fs)) ∙ y .0; letter-is = y .1 .0; count = count; written = y .1 .1 .1 .0; limits = y .1 .1 .1 .1 .0 } in
     omega (arith, line-length line, laid-short fs (layout w (letterIn fs)) (laid fs w (y .0) p), layout-short w (letterIn fs))

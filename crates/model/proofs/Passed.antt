@@ -10,9 +10,9 @@ use Rattle.model.specs.Pattern.{agesOf, whole}
 use Rattle.model.specs.Tail.{schedule}
 use Rattle.model.specs.Book.{Book}
 use Rattle.model.specs.Call.{Call, addPattern}
-use Rattle.model.specs.Field.{fields, field}
-use Rattle.model.specs.Record.{wordOf}
-use Rattle.model.specs.Question.{hasLetter, hasLengths, isWithinLimits, isToBeGiven, isDeclared, hasRate, isInTurn, hasIncurred, climbs, hasPatterns, lineQuestions, callQuestions, bookQuestions, firstNo}
+use Rattle.model.specs.Field.{fields}
+use Rattle.model.specs.Record.{recordOf}
+use Rattle.model.specs.Question.{hasLetter, hasLengths, isWithinLimits, isToBeGiven, hasMonths, isDeclared, hasRate, isInTurn, hasIncurred, climbs, hasPatterns, lineQuestions, callQuestions, bookQuestions, firstNo}
 use Rattle.model.specs.Step.{Request, asBytes, asNumbers, asked, callOf, questions}
 use Rattle.model.proofs.Lists.{all-yes, every-right}
 use Rattle.model.proofs.Lengths.{lengths-right}
@@ -23,6 +23,7 @@ pub record Passed (book : Book) (call : Call) : Type 0 where
   pub lengths : hasLengths call ≡ true
   pub limits : isWithinLimits call ≡ true
   pub to-be-given : isToBeGiven book call ≡ true
+  pub months : hasMonths book call ≡ true
   pub declared : isDeclared book call ≡ true
   pub rate : hasRate book call ≡ true
   pub turn : isInTurn book call ≡ true
@@ -41,19 +42,20 @@ from-book book call q3 q4 q6 y =
       lengths = q4;
       limits = q6;
       to-be-given = y .0;
-      declared = y .1 .0;
-      rate = y .1 .1 .0;
-      turn = y .1 .1 .1 .0;
-      incurred = y .1 .1 .1 .1 .0;
-      climbing = y .1 .1 .1 .1 .1 .0;
-      patterns = y .1 .1 .1 .1 .1 .1 .0;
+      months = y .1 .0;
+      declared = y .1 .1 .0;
+      rate = y .1 .1 .1 .0;
+      turn = y .1 .1 .1 .1 .0;
+      incurred = y .1 .1 .1 .1 .1 .0;
+      climbing = y .1 .1 .1 .1 .1 .1 .0;
+      patterns = y .1 .1 .1 .1 .1 .1 .1 .0;
     }
 
 of-line : (book : Book) (line : List ℕ) → AllYes (lineQuestions line ++ bookQuestions book (callOf line)) → Passed book (callOf line)
 unfolding lineQuestions
 of-line book line y =
     let fs : List (List ℕ) = fields line in
-    from-book book (callOf line) (y .1 .1 .0) (lengths-right (wordOf (field 0 fs)) fs) (y .1 .1 .1 .1 .1 .0) (every-right (λ q. q .1 ≡ true) (lineQuestions line) (bookQuestions book (callOf line)) y)
+    from-book book (callOf line) (y .1 .1 .0) (lengths-right (recordOf fs) fs) (y .1 .1 .1 .1 .1 .0) (every-right (λ q. q .1 ≡ true) (lineQuestions line) (bookQuestions book (callOf line)) y)
 
 of-call : (book : Book) (call : Call) → AllYes (callQuestions call ++ bookQuestions book call) → Passed book call
 unfolding callQuestions

@@ -14,8 +14,8 @@ use Rattle.model.specs.Basics.{if_then_else_, same, all, bytes}
 use Rattle.model.specs.Letter.{tenYear, twoYear, covered}
 use Rattle.model.specs.Field.{onlyByte}
 use Rattle.model.specs.Number.{isDigit, onward, natural, isPlain, minus, isWritten, integer}
-use Rattle.model.specs.Kind.{isRate, isYear, isOpening, isAmount, isPaid}
-use Rattle.model.specs.Record.{Word, LINE, RATE, PATT, YEAR, SUM, wordOf}
+use Rattle.model.specs.Kind.{isRate, isYear, isRegisterYear, isMonth, isOpening, isAmount, isPaid}
+use Rattle.model.specs.Record.{Word, LINE, RATE, PATT, YEAR, SUM, MIDT, wordOf}
 use Rattle.model.specs.Question.{hasWord}
 use Rattle.model.proofs.Lists.{true≢false, and-left, and-right}
 
@@ -25,6 +25,8 @@ pub data FieldKind : Type 0 where
   letter : FieldKind
   opening : FieldKind
   year : FieldKind
+  registerYear : FieldKind
+  month : FieldKind
   rate : FieldKind
   amount : FieldKind
   paid : FieldKind
@@ -35,6 +37,8 @@ fits word f = hasWord (wordOf f)
 fits letter f = covered (onlyByte f)
 fits opening f = isWritten false f && isOpening (natural f)
 fits year f = isWritten false f && isYear (natural f)
+fits registerYear f = isWritten false f && isRegisterYear (natural f)
+fits month f = isWritten false f && isMonth (natural f)
 fits rate f = isWritten false f && isRate (natural f)
 fits amount f = isWritten false f && isAmount (natural f)
 fits paid f = isWritten true f && isPaid (integer f)
@@ -45,6 +49,8 @@ width word = 4
 width letter = 1
 width opening = 12
 width year = 4
+width registerYear = 4
+width month = 2
 width rate = 4
 width amount = 11
 width paid = 12
@@ -120,7 +126,8 @@ word-short f =
     one-word f (bytes "PATT") PATT _ (omega arith) (
     one-word f (bytes "YEAR") YEAR _ (omega arith) (
     one-word f (bytes "SUM") SUM _ (omega arith) (
-    λ none. absurd (true≢false (sym none)))))))
+    one-word f (bytes "MIDT") MIDT _ (omega arith) (
+    λ none. absurd (true≢false (sym none))))))))
 
 letter-short : (f : List ℕ) → covered (onlyByte f) ≡ true → length f ≤ 1
 unfolding tenYear twoYear
@@ -145,6 +152,8 @@ at-most-width word f h = word-short f h
 at-most-width letter f h = letter-short f h
 at-most-width opening f h = limited _ _ (omega arith) (omega arith) f h
 at-most-width year f h = between _ _ _ (omega arith) (omega arith) f h
+at-most-width registerYear f h = between _ _ _ (omega arith) (omega arith) f h
+at-most-width month f h = between _ _ _ (omega arith) (omega arith) f h
 at-most-width rate f h = limited _ _ (omega arith) (omega arith) f h
 at-most-width amount f h = limited _ _ (omega arith) (omega arith) f h
 at-most-width paid f h =

@@ -31,9 +31,11 @@ pub record Line : Type 0 where
   pub kept : List Kept
   pub totals : Totals
 
--- the book: each year's rate ("one rate place for each year from 1987 to 2099": no other year passes question 6), each letter's line, and the counts of accepted and refused records
+-- the book: each year's rate ("one rate place for each year from 1987 to 2099": no other year passes question 6), each letter's line, and the counts of accepted and refused records.
+-- F-4, "a register of monthly rates": the federal mid-term rate of each year and month
 pub record Book : Type 0 where
   pub rates : ℕ → Option ℕ
+  pub register : ℕ → ℕ → Option ℕ
   pub lines : ℕ → Line
   pub accepted : ℕ
   pub refused : ℕ
@@ -42,11 +44,12 @@ pub record Book : Type 0 where
 abbrev pub noTotals : Totals
 noTotals = record { years = 0; paid = pos 0; losses = pos 0 }
 
--- "An empty book has no line, rate, pattern or closing, and both counts are 0."
+-- "An empty book has no line, rate, pattern or closing, and both counts are 0."; nor a month in the register
 abbrev pub empty : Book
 empty =
     record {
       rates = λ year. none;
+      register = λ year month. none;
       lines = λ letter. record { opening = none; closed = none; kept = []; totals = noTotals };
       accepted = 0;
       refused = 0;

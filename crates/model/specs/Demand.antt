@@ -1,8 +1,8 @@
--- Demand 3 of document 01: "a single claim about the whole list, not one for each record"; and F-2's totals, over the same list.
+-- Demand 3 of document 01: "a single claim about the whole list, not one for each record"; and F-2's totals and F-4's register, over the same list.
 -- Throughout, h is the accepted records of the list, in order, and age k + 1 is at place k.
 -- Assumes nothing: these are definitions.
 use mathlib.Core.Path.{_≡_}
-use mathlib.Core.List.{List, [], _∷_, reverse}
+use mathlib.Core.List.{List, [], _∷_, map, reverse}
 use mathlib.Core.Option.{none, some}
 use Prim.Native.Nat.{ℕ, suc, _+_, _-_, _<_}
 use lib.Dec.{ltb}
@@ -10,6 +10,7 @@ use lib.ListN.{length, take, drop, getD}
 use lib.IntN.{pos, _+ℤ_, _-ℤ_}
 use Rattle.model.specs.Basics.{if_then_else_, sum, Every, EveryAt}
 use Rattle.model.specs.Letter.{ages}
+use Rattle.model.specs.Rate.{rateOf, sixtyMonths}
 use Rattle.model.specs.HalfYear.{halfYear}
 use Rattle.model.specs.Pattern.{unpaid}
 use Rattle.model.specs.Factor.{factors}
@@ -17,14 +18,15 @@ use Rattle.model.specs.Exact.{Fraction, exactRatio, exactComposite, comp
 use Rattle.model.specs.Row.{Row, rowsOf, gross}
 use Rattle.model.specs.Book.{Book, Totals, noTotals, Line, Kept, Closed, empty, latest}
 use Rattle.model.specs.YearEnd.{discountedRow, discountedRows}
-use Rattle.model.specs.Call.{Call, declare, setRate, addPattern, closeYear, totals}
-use Rattle.model.specs.Answer.{Answer}
+use Rattle.model.specs.Call.{Call, declare, setRate, addPattern, closeYear, totals, registerMonth, setRateFromRegister}
+use Rattle.model.specs.Answer.{Answer, rated}
 use Rattle.model.specs.Step.{Request}
 use Rattle.model.specs.Run.{after}
 use Rattle.model.specs.Near.{FactorNear, RowNear}
-use Rattle.model.specs.History.{Entry, accepted, ratesIn, paymentsIn, keptIn, openingsIn, yearsIn, paidIn, paidAnsweredIn, lossesIn, closedIn, closedFrom}
+use Rattle.model.specs.History.{Entry, accepted, listed, monthsIn, ratesIn, paymentsIn, keptIn, openingsIn, yearsIn, paidIn, paidAnsweredIn, lossesIn, closedIn, closedFrom}
 
 -- "A pattern and its exact ratios come from the PATT of that letter and accident year, with the rate from that year's RATE.": h has one of each, which give the payments and the rate
+-- (the rate of a RATE with a year alone is that of its accepted MIDTs, of which `RateHolds` says that there is one for each month)
 pub record Given (h : List Entry) (letter year rate : ℕ) (pay : List ℕ) : Type 0 where
   pub from-rate : ratesIn h year ≡ rate ∷ []
   pub from-pattern : paymentsIn h letter year ≡ pay ∷ []
@@ -78,7 +80,13 @@ pub record YearHolds (h : List Entry) (line : Line) (answer : Answer) (letter ye
   pub answered : closedFrom letter answer ≡ some (record { year = year; closing = sum (discountedRows letter line year 0 rows) })
   pub each : EveryAt (λ k row. RowHolds h letter year k row (discountedRow letter line year k row)) 0 rows
 
--- an accepted record: a PATT's factors, a YEAR's rows
+-- F-4, an accepted RATE with a year alone: h has one MIDT for each of its sixty months, and the rate that it answers is theirs
+pub record RateHolds (h : List Entry) (answer : Answer) (year : ℕ) : Type 0 where
+  pub months : List ℕ
+  pub from-months : sixtyMonths (monthsIn h) year ≡ map (λ rate. rate ∷ []) months
+  pub answered : answer ≡ rated year (rateOf months)
+
+-- an accepted record: a PATT's factors, a YEAR's rows, the months of a RATE with a year alone
 abbrev pub EntryHolds : List Entry → Book → Answer → Book → Call → Type 0
 EntryHolds h before answer later (declare letter opening) = Unit {0}
 EntryHolds h before answer later (setRate year months) = Unit {0}
@@ -86,6 +94,8 @@ EntryHolds h before answer later (addPattern letter year paid incurred) = Patter
 EntryHolds h before answer later (closeYear letter year paid unpaid tabular) =
     YearHolds h (before .lines letter) answer letter year (rowsOf paid unpaid tabular)
 EntryHolds h before answer later (totals letter) = Unit {0}
+EntryHolds h before answer later (registerMonth year month rate) = Unit {0}
+EntryHolds h before answer later (setRateFromRegister year) = RateHolds h answer year
 
 -- (iii) "a line's losses sum to its payments plus last closing less declared opening"
 pub record LossesAddUp (h : List Entry) (letter lastClosing : ℕ) : Type 0 where
@@ -116,7 +126,7 @@ pub record TotalsHold (h : List Entry) (letter : ℕ) (figures : Totals) : Type 
 
 -- all of it, b being the book after the list
 pub record Holds (h : List Entry) (b : Book) : Type 0 where
-  -- every accepted PATT and YEAR
+  -- every accepted PATT, YEAR and RATE with a year alone
   pub entries : Every (λ e. EntryHolds h (e .before) (e .answer) (e .later) (e .call)) h
   -- every pattern that the book keeps
   pub patterns : (letter : ℕ) → Every (KeptNear h letter) (b .lines letter .kept)
@@ -126,6 +136,10 @@ pub record Holds (h : List Entry) (b : Book) : Type 0 where
   pub losses : (letter : ℕ) (last : Closed) → closedIn h letter ≡ some last → LossesAddUp h letter (last .closing)
   -- the closing that the book holds is the last one answered
   pub closed : (letter : ℕ) → b .lines letter .closed ≡ closedIn h letter
+  -- every rate that the book holds is that of its year's RATE
+  pub rates : (year : ℕ) → ratesIn h year ≡ listed (b .rates year)
+  -- F-4: MIDT "stores one federal mid-term rate, once": every month of the register is that of its MIDT
+  pub register : (year month : ℕ) → monthsIn h year month ≡ listed (b .register year month)
   -- every line's totals
   pub totals : (letter : ℕ) → TotalsHold h letter (b .lines letter .totals)
 

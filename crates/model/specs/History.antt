@@ -6,13 +6,13 @@ use mathlib.Core.Option.{Option, none, some}
 use Prim.Native.Nat.{ℕ}
 use lib.Dec.{eqb}
 use lib.IntN.{ℤ, pos}
-use Rattle.model.specs.Basics.{if_then_else_, total}
-use Rattle.model.specs.Rate.{rateOf}
+use Rattle.model.specs.Basics.{if_then_else_, total, joined}
+use Rattle.model.specs.Rate.{rateOf, sixtyMonths}
 use Rattle.model.specs.Pattern.{agesOf}
 use Rattle.model.specs.Tail.{schedule}
 use Rattle.model.specs.Book.{Book, Kept, Closed, latest}
-use Rattle.model.specs.Call.{Call, declare, setRate, addPattern, closeYear, totals}
-use Rattle.model.specs.Answer.{Answer, declared, rated, fact, tax, summed, refusal}
+use Rattle.model.specs.Call.{Call, declare, setRate, addPattern, closeYear, totals, registerMonth, setRateFromRegister}
+use Rattle.model.specs.Answer.{Answer, declared, rated, fact, tax, summed, registered, refusal}
 use Rattle.model.specs.Question.{firstNo}
 use Rattle.model.specs.Step.{Request, asked, questions, step}
 
@@ -55,13 +55,25 @@ abbrev pub lastOf : {A : Type 0} → (Entry → Option A) → List Entry → Opt
 lastOf f [] = none
 lastOf f (e ∷ entries) = orElse (lastOf f entries) (f e)
 
--- the rate that a call gives for the year
-abbrev pub rateFrom : ℕ → Call → Option ℕ
-rateFrom y (declare letter opening) = none
-rateFrom y (setRate year months) = if eqb y year then some (rateOf months) else none
-rateFrom y (addPattern letter year paid incurred) = none
-rateFrom y (closeYear letter year paid unpaid tabular) = none
-rateFrom y (totals letter) = none
+-- the rate that a call gives for the year, where `taken` has the months that RATE with a year alone takes
+abbrev pub rateFrom : (ℕ → List ℕ) → ℕ → Call → Option ℕ
+rateFrom taken y (declare letter opening) = none
+rateFrom taken y (setRate year months) = if eqb y year then some (rateOf months) else none
+rateFrom taken y (addPattern letter year paid incurred) = none
+rateFrom taken y (closeYear letter year paid unpaid tabular) = none
+rateFrom taken y (totals letter) = none
+rateFrom taken y (registerMonth year month rate) = none
+rateFrom taken y (setRateFromRegister year) = if eqb y year then some (rateOf (taken year)) else none
+
+-- the rate that a call gives for the month of a year
+abbrev pub monthFrom : ℕ → ℕ → Call → Option ℕ
+monthFrom y m (declare letter opening) = none
+monthFrom y m (setRate year months) = none
+monthFrom y m (addPattern letter year paid incurred) = none
+monthFrom y m (closeYear letter year paid unpaid tabular) = none
+monthFrom y m (totals letter) = none
+monthFrom y m (registerMonth year month rate) = if eqb y year && eqb m month then some rate else none
+monthFrom y m (setRateFromRegister year) = none
 
 -- the payments by age that a call gives for the letter and the accident year
 abbrev pub paymentsFrom : ℕ → ℕ → Call → Option (List ℕ)
@@ -70,6 +82,8 @@ paymentsFrom l y (setRate year months) = none
 paymentsFrom l y (addPattern letter year paid incurred) = if eqb l letter && eqb y year then some (schedule letter (agesOf paid incurred)) else none
 paymentsFrom l y (closeYear letter year paid unpaid tabular) = none
 paymentsFrom l y (totals letter) = none
+paymentsFrom l y (registerMonth year month rate) = none
+paymentsFrom l y (setRateFromRegister year) = none
 
 -- the pattern that the book keeps last after a call that gives one for the letter
 abbrev pub keptFrom : ℕ → Call → Book → Option Kept
@@ -78,6 +92,8 @@ keptFrom l (setRate year months) later = none
 keptFrom l (addPattern letter year paid incurred) later = if eqb l letter then latest (later .lines letter .kept) else none
 keptFrom l (closeYear letter year paid unpaid tabular) later = none
 keptFrom l (totals letter) later = none
+keptFrom l (registerMonth year month rate) later = none
+keptFrom l (setRateFromRegister year) later = none
 
 -- the opening that a call declares for the letter
 abbrev pub declaredFrom : ℕ → Call → Option ℕ
@@ -86,6 +102,8 @@ declaredFrom l (setRate year months) = none
 declaredFrom l (addPattern letter year paid incurred) = none
 declaredFrom l (closeYear letter year paid unpaid tabular) = none
 declaredFrom l (totals letter) = none
+declaredFrom l (registerMonth year month rate) = none
+declaredFrom l (setRateFromRegister year) = none
 
 -- the year that a call closes for the letter
 abbrev pub yearFrom : ℕ → Call → Option ℕ
@@ -94,6 +112,8 @@ yearFrom l (setRate year months) = none
 yearFrom l (addPattern letter year paid incurred) = none
 yearFrom l (closeYear letter year paid unpaid tabular) = if eqb l letter then some year else none
 yearFrom l (totals letter) = none
+yearFrom l (registerMonth year month rate) = none
+yearFrom l (setRateFromRegister year) = none
 
 -- the sum of every paid that a call which closes a year of the letter lists, the prior row's too; 0 of any other
 abbrev pub paidFrom : ℕ → Call → ℤ
@@ -102,6 +122,8 @@ paidFrom l (setRate year months) = pos 0
 paidFrom l (addPattern letter year paid incurred) = pos 0
 paidFrom l (closeYear letter year paid unpaid tabular) = if eqb l letter then total (λ v. v) paid else pos 0
 paidFrom l (totals letter) = pos 0
+paidFrom l (registerMonth year month rate) = pos 0
+paidFrom l (setRateFromRegister year) = pos 0
 
 -- the paid, the loss, and the year with its closing, that a TAX of the letter answers
 abbrev pub paidAnswered : ℕ → Answer → ℤ
@@ -110,6 +132,7 @@ paidAnswered l (rated year rate) = pos 0
 paidAnswered l (fact letter year factors composite) = pos 0
 paidAnswered l (tax letter year paid opening closing loss) = if eqb l letter then paid else pos 0
 paidAnswered l (summed letter years paid losses) = pos 0
+paidAnswered l (registered year month rate) = pos 0
 paidAnswered l (refusal question) = pos 0
 
 abbrev pub lossFrom : ℕ → Answer → ℤ
@@ -118,6 +141,7 @@ lossFrom l (rated year rate) = pos 0
 lossFrom l (fact letter year factors composite) = pos 0
 lossFrom l (tax letter year paid opening closing loss) = if eqb l letter then loss else pos 0
 lossFrom l (summed letter years paid losses) = pos 0
+lossFrom l (registered year month rate) = pos 0
 lossFrom l (refusal question) = pos 0
 
 abbrev pub closedFrom : ℕ → Answer → Option Closed
@@ -126,11 +150,20 @@ closedFrom l (rated year rate) = none
 closedFrom l (fact letter year factors composite) = none
 closedFrom l (tax letter year paid opening closing loss) = if eqb l letter then some (record { year = year; closing = closing }) else none
 closedFrom l (summed letter years paid losses) = none
+closedFrom l (registered year month rate) = none
 closedFrom l (refusal question) = none
 
--- "with the rate from that year's RATE": the rates of all accepted RATEs of the year
+-- F-4: the rates of all accepted MIDTs of the month of a year
+unfoldable pub monthsIn : List Entry → ℕ → ℕ → List ℕ
+monthsIn h y m = gather (λ e. monthFrom y m (e .call)) h
+
+-- F-4: "takes the sixty months from January five years before to December of the year before": the rates of all accepted MIDTs of these months, in their order
+unfoldable pub takenIn : List Entry → ℕ → List ℕ
+takenIn h year = joined (sixtyMonths (monthsIn h) year)
+
+-- "with the rate from that year's RATE": the rates of all accepted RATEs of the year, in either form
 unfoldable pub ratesIn : List Entry → ℕ → List ℕ
-ratesIn h y = gather (λ e. rateFrom y (e .call)) h
+ratesIn h y = gather (λ e. rateFrom (takenIn h) y (e .call)) h
 
 -- "A pattern and its exact ratios come from the PATT of that letter and accident year": the payments of all accepted PATTs of the letter and the year
 unfoldable pub paymentsIn : List Entry → ℕ → ℕ → List (List ℕ)

@@ -13,6 +13,13 @@ isRate n = leb n 2500
 abbrev pub isYear : ℕ → Bool
 isYear n = leb 1987 n && leb n 2099
 
+-- F-4: "A record MIDT with year (1980 to 2099), month (1 to 12) and rate"
+abbrev pub isRegisterYear : ℕ → Bool
+isRegisterYear n = leb 1980 n && leb n 2099
+
+abbrev pub isMonth : ℕ → Bool
+isMonth n = leb 1 n && leb n 12
+
 -- "LINE, letter, opening (0 to 100,000,000,000)."
 abbrev pub isOpening : ℕ → Bool
 isOpening n = leb n 100000000000

@@ -21,6 +21,7 @@ pub mod Published
 pub mod Question
 pub mod Rate
 pub mod Record
+pub mod RegisterSample
 pub mod Row
 pub mod Run
 pub mod Sample

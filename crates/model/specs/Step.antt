@@ -8,7 +8,7 @@ use lib.ListN.{take}
 use lib.IntN.{ℤ, _+ℤ_}
 use Rattle.model.specs.Basics.{orDefault, put}
 use Rattle.model.specs.Letter.{ages}
-use Rattle.model.specs.Rate.{rateOf}
+use Rattle.model.specs.Rate.{rateOf, sixtyMonths}
 use Rattle.model.specs.Pattern.{agesOf}
 use Rattle.model.specs.Tail.{schedule}
 use Rattle.model.specs.Factor.{keptFactors}
@@ -17,11 +17,11 @@ use Rattle.model.specs.Published.{published}
 use Rattle.model.specs.Row.{rowsOf}
 use Rattle.model.specs.Book.{Book, Totals, noTotals, Line, Kept}
 use Rattle.model.specs.YearEnd.{closing, opening, paidTotal, loss}
-use Rattle.model.specs.Call.{Call, declare, setRate, addPattern, closeYear, totals}
-use Rattle.model.specs.Field.{fields, field}
-use Rattle.model.specs.Record.{wordOf, callFrom}
+use Rattle.model.specs.Call.{Call, declare, setRate, addPattern, closeYear, totals, registerMonth, setRateFromRegister}
+use Rattle.model.specs.Field.{fields}
+use Rattle.model.specs.Record.{recordOf, callFrom}
 use Rattle.model.specs.Question.{lineQuestions, callQuestions, bookQuestions, firstNo}
-use Rattle.model.specs.Answer.{Answer, declared, rated, fact, tax, summed, refusal}
+use Rattle.model.specs.Answer.{Answer, declared, rated, fact, tax, summed, registered, refusal}
 
 -- a record, by the bytes of its line; or a call with numbers
 pub data Request : Type 0 where
@@ -32,7 +32,7 @@ pub data Request : Type 0 where
 abbrev pub callOf : List ℕ → Call
 callOf line =
     let fs = fields line in
-    callFrom (wordOf (field 0 fs)) fs
+    callFrom (recordOf fs) fs
 
 abbrev pub asked : Request → Call
 asked (asBytes line) = callOf line
@@ -52,26 +52,35 @@ pub record Outcome : Type 0 where
   pub book : Book
   pub answer : Answer
 
--- "Lines, rates, patterns, closings and the accepted count are then as before, and the refused count is one higher."
+-- "Lines, rates, patterns, closings and the accepted count are then as before, and the refused count is one higher.": the register too (F-4)
 unfoldable pub refuse : Book → ℕ → Outcome
 refuse book question =
     record {
-      book = record { rates = book .rates; lines = book .lines; accepted = book .accepted; refused = oneMore (book .refused) };
+      book = record { rates = book .rates; register = book .register; lines = book .lines; accepted = book .accepted; refused = oneMore (book .refused) };
       answer = refusal question;
     }
 
 -- "Without a "no" the record is accepted and the accepted count is one higher."
 abbrev pub withLine : Book → ℕ → Line → Book
 withLine book letter line =
-    record { rates = book .rates; lines = put (book .lines) letter line; accepted = oneMore (book .accepted); refused = book .refused }
+    record { rates = book .rates; register = book .register; lines = put (book .lines) letter line; accepted = oneMore (book .accepted); refused = book .refused }
 
 abbrev pub withRate : Book → ℕ → ℕ → Book
 withRate book year rate =
-    record { rates = put (book .rates) year (some rate); lines = book .lines; accepted = oneMore (book .accepted); refused = book .refused }
+    record { rates = put (book .rates) year (some rate); register = book .register; lines = book .lines; accepted = oneMore (book .accepted); refused = book .refused }
+
+-- F-4: MIDT "stores one federal mid-term rate, once"
+abbrev pub withMonth : Book → ℕ → ℕ → ℕ → Book
+withMonth book year month rate =
+    record { rates = book .rates; register = put (book .register) year (put (book .register year) month (some rate)); lines = book .lines; accepted = oneMore (book .accepted); refused = book .refused }
+
+-- F-4: the sixty rates that RATE with a year alone "takes" from the register (question 14 asks that each is given)
+abbrev pub monthsTaken : Book → ℕ → List ℕ
+monthsTaken book year = map (λ month. orDefault month 0) (sixtyMonths (book .register) year)
 
 -- the book that SUM leaves (F-2): only the accepted count is another
 abbrev pub counted : Book → Book
-counted book = record { rates = book .rates; lines = book .lines; accepted = oneMore (book .accepted); refused = book .refused }
+counted book = record { rates = book .rates; register = book .register; lines = book .lines; accepted = oneMore (book .accepted); refused = book .refused }
 
 -- the line that LINE declares
 abbrev pub declaredLine : ℕ → Line
@@ -118,6 +127,10 @@ accept book (closeYear letter year paid unpaid tabular) =
 accept book (totals letter) =
     let figures = book .lines letter .totals in
     record { book = counted book; answer = summed letter (figures .years) (figures .paid) (figures .losses) }
+accept book (registerMonth year month rate) = record { book = withMonth book year month rate; answer = registered year month rate }
+accept book (setRateFromRegister year) =
+    let rate = rateOf (monthsTaken book year) in
+    record { book = withRate book year rate; answer = rated year rate }
 
 -- "A "no" refuses with that question's number."
 abbrev pub settle : Option ℕ → Book → Call → Outcome

@@ -35,7 +35,7 @@ use Rattle.ledger.specs.declared.answer.Outcome.{Outcome}
 use Rattle.ledger.specs.Answer.{oneMoreAccepted, acceptedOf}
 use Rattle.ledger.specs.Does.{bookSettled, storeSettled, Settled}
 use Rattle.patterns.specs.AddPattern.{Turned}
-use Rattle.state.proofs.KeptPatterns.{slot-is, pattern-put, pattern-shown}
+use Rattle.state.proofs.KeptPatterns.{slot-is, pattern-put, pattern-register, pattern-shown}
 use Rattle.state.proofs.Limited.{line-limited}
 use Rattle.state.proofs.Views.{line-is}
 use Rattle.patterns.proofs.Turns.{next-year}
@@ -73,7 +73,7 @@ module _ (book : Book) (store : List ℕ) (line : Line) (letter year rate : ℕ)
 
   shown : length store ≡ size → Limited letter line → (0 < line .kept → year ≡ line .last + 1)
       → view (oneMoreAccepted book) (withLineOf (withSlotOf store letter year (slotOf letter (keptPattern letter year rate pay))) letter (withPatternOf letter line year)) ≡ withLine (view book store) letter (withPattern letter (linesOf store letter) (keptPattern letter year rate pay))
-  shown n l next = rw (pattern-put store letter year rate pay (pre .sound .letter) n count line l is-year next, line-is store letter line (pre .here))
+  shown n l next = rw (pattern-register store letter year rate pay (pre .sound .letter) n count line l is-year next, pattern-put store letter year rate pay (pre .sound .letter) n count line l is-year next, line-is store letter line (pre .here))
 
   pub pattern-added : (pattern : Pattern) → pattern ≡ patternOf letter rate paid incurred → pattern .verdict ≡ Fine → length store ≡ size → (r : Outcome) → r ≡ acceptedOf book (answer.Fact letter year)
       → (later : List ℕ) → later ≡ withLineOf (withSlotOf store letter year (pattern .factors ++ (pattern .composite ∷ []))) letter (withPatternOf letter line year)

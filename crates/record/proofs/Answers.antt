@@ -10,9 +10,9 @@ use borrow.Author.Tests.{eqb-true}
 use lib.ListN.{length, take, drop, getD}
 use Rattle.model.specs.Basics.{if_then_else_, given}
 use Rattle.model.specs.Letter.{tenYear, ages}
-use Rattle.model.specs.Call.{Call, declare, setRate, totals}
+use Rattle.model.specs.Call.{Call, declare, setRate, totals, registerMonth, setRateFromRegister}
 use Rattle.model.specs.Field.{fields, field, letterIn, column}
-use Rattle.model.specs.Record.{Word, LINE, RATE, PATT, YEAR, SUM, OTHER, wordOf, fieldCount, firstNumber, callFrom}
+use Rattle.model.specs.Record.{Word, LINE, RATE, RATE-ALONE, PATT, YEAR, SUM, MIDT, OTHER, recordOf, fieldCount, firstNumber, callFrom}
 use Rattle.model.specs.Step as model
 use Rattle.model.specs.Question.{isShort, hasWord, hasLetter, hasFields, isWellWritten, isWithinLimits, lineQuestions, callQuestions, firstNo}
 use Rattle.model.proofs.Lists.{some≢none, all-yes}
@@ -24,7 +24,7 @@ use Rattle.record.specs.Request.{askedOf, answered, withNumbers, leftIn,
 use Rattle.record.specs.Asks.{patternOf, yearOf, Low, Asks, Says}
 use Rattle.record.specs.declared.request.Request.{Request}
 use Rattle.record.specs.declared.request.Asked.{Asked}
-use Rattle.record.proofs.Caps.{cappedPaid, Alike, line-same, rate-same, pattern-same, year-same}
+use Rattle.record.proofs.Caps.{cappedPaid, Alike, line-same, rate-same, pattern-same, year-same, month-same, rate-alone-same}
 use Rattle.record.proofs.Columns.{each-column, part-column}
 use Rattle.record.proofs.Gathers.{gathered-at, gathered-length}
 use Rattle.record.proofs.Questions.{room}
@@ -73,6 +73,18 @@ module _ (fs : List (List ℕ)) (minus : List Bool) (sizes : List ℕ) where
       let months : take 60 (drop 2 sizes) ≡ map capped (column 60 1 2 fs) = part-column sizes 0 capped fs 60 2 (omega (arith, p .long)) (λ i ge lt. p .values i (omega arith) (omega arith)) in
       rw (p .values 1 (omega arith) (omega arith), months) (rate-same (field 1 fs) (column 60 1 2 fs))
 
+  rate-alone-alike : Placed RATE-ALONE fs minus sizes → Alike (setRateFromRegister (getD sizes 1 0)) (callFrom RATE-ALONE fs)
+  unfolding callFrom
+  rate-alone-alike p =
+      let n = p .total in
+      rw (p .values 1 (omega arith) (omega arith)) (rate-alone-same (field 1 fs))
+
+  month-alike : Placed MIDT fs minus sizes → Alike (registerMonth (getD sizes 1 0) (getD sizes 2 0) (getD sizes 3 0)) (callFrom MIDT fs)
+  unfolding callFrom
+  month-alike p =
+      let n = p .total in
+      rw (p .values 1 (omega arith) (omega arith), p .values 2 (omega arith) (omega arith), p .values 3 (omega arith) (omega arith)) (month-same (field 1 fs) (field 2 fs) (field 3 fs))
+
   pattern-alike : Placed PATT fs minus sizes → Alike (patternOf (letterIn fs) sizes) (callFrom PATT fs)
   unfolding callFrom
   pattern-alike p =
@@ -108,7 +120,7 @@ long-by false list left e = e
 pub sizes-long : (line : List ℕ) (minus : List Bool) (sizes : List ℕ) (r : Request) (ms : List Bool) (ns : List ℕ) → Gives (readOf line minus sizes) r ms ns → length ns ≡ length sizes
 unfolding readOf
 sizes-long line minus sizes r ms ns g =
-    let word = wordOf (field 0 (fields line)) in
+    let word = recordOf (fields line) in
     rw (g .values) (long-by (given (firstNo (take 3 (lineQuestions line)))) sizes (withNumbers capped word (fields line) sizes) (gathered-length capped word (firstNumber word) (fieldCount word (letterIn (fields line))) (fields line) sizes))
 
 -- the number of the question that is answered no
@@ -131,7 +143,7 @@ module _ (line : List ℕ) where
   refused : (q : ℕ) → firstNo (take 5 (lineQuestions line)) ≡ some q → firstNo (lineQuestions line) ≡ some (numberOf (refusalOf q))
   unfolding lineQuestions
   refused q h =
-      let word = wordOf (field 0 (fields line)) in
+      let word = recordOf (fields line) in
       let call = callFrom word (fields line) in
       no-table (isShort line) (hasWord word) (hasLetter call) (hasFields word (fields line)) (isWellWritten word (fields line)) (isWithinLimits call) q h
 
@@ -141,28 +153,30 @@ module _ (line : List ℕ) where
     asks call a =
         let y = all-yes (take 5 (lineQuestions line)) passed in
         let lettered = a .letter ∙ y .1 .1 .0 in
-        let counted = a .lengths ∙ lengths-right (wordOf (field 0 (fields line))) (fields line) in
+        let counted = a .lengths ∙ lengths-right (recordOf (fields line)) (fields line) in
         record {
           first = rw (y .0, y .1 .0, y .1 .1 .0, y .1 .1 .1 .0, y .1 .1 .1 .1 .0, lettered, counted, a .limits);
           same = λ e. a .same (all-yes (lineQuestions line) e .1 .1 .1 .1 .1 .0);
         }
 
-    says-word : (word : Word) → word ≡ wordOf (field 0 (fields line)) → hasWord word ≡ true → (minus : List Bool) (sizes : List ℕ) → Placed word (fields line) minus sizes → Says (askedOf word) (letterIn (fields line)) minus sizes line
+    says-word : (word : Word) → word ≡ recordOf (fields line) → hasWord word ≡ true → (minus : List Bool) (sizes : List ℕ) → Placed word (fields line) minus sizes → Says (askedOf word) (letterIn (fields line)) minus sizes line
     says-word LINE e h minus sizes p = asks (declare (letterIn (fields line)) (getD sizes 2 0)) (rw (← e) (line-alike (fields line) minus sizes p))
     says-word RATE e h minus sizes p = asks (setRate (getD sizes 1 0) (take 60 (drop 2 sizes))) (rw (← e) (rate-alike (fields line) minus sizes p))
+    says-word RATE-ALONE e h minus sizes p = asks (setRateFromRegister (getD sizes 1 0)) (rw (← e) (rate-alone-alike (fields line) minus sizes p))
     says-word PATT e h minus sizes p = asks (patternOf (letterIn (fields line)) sizes) (rw (← e) (pattern-alike (fields line) minus sizes p))
     says-word YEAR e h minus sizes p = (asks (yearOf (letterIn (fields line)) minus sizes) (rw (← e) (year-alike (fields line) minus sizes p)), low (fields line) minus sizes p)
     says-word SUM e h minus sizes p = asks (totals (letterIn (fields line))) (rw (← e) (totals-alike (fields line)))
+    says-word MIDT e h minus sizes p = asks (registerMonth (getD sizes 1 0) (getD sizes 2 0) (getD sizes 3 0)) (rw (← e) (month-alike (fields line) minus sizes p))
     says-word OTHER e h minus sizes p = absurd (false≢true h)
 
     module _ (minus : List Bool) (sizes : List ℕ) (lm : length minus ≡ 62) (ls : length sizes ≡ 62) where
-      passed-says : let word = wordOf (field 0 (fields line)) in Says (askedOf word) (letterIn (fields line)) (leftIn hasMinus line minus) (leftIn capped line sizes) line
+      passed-says : let word = recordOf (fields line) in Says (askedOf word) (letterIn (fields line)) (leftIn hasMinus line minus) (leftIn capped line sizes) line
       unfolding lineQuestions
       passed-says =
           let fs = fields line in
-          let word = wordOf (field 0 fs) in
+          let word = recordOf fs in
           let y = all-yes (take 5 (lineQuestions line)) passed in
-          let total : length (fields line) ≡ fieldCount (wordOf (field 0 (fields line))) (letterIn (fields line)) = eqb-true _ _ (y .1 .1 .1 .0) in
+          let total : length (fields line) ≡ fieldCount (recordOf (fields line)) (letterIn (fields line)) = eqb-true _ _ (y .1 .1 .1 .0) in
           let few = room word (letterIn fs) (y .1 .0) .1 in
           let p : Placed word fs (withNumbers hasMinus word fs minus) (withNumbers capped word fs sizes) =
           record {

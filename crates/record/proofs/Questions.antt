@@ -11,7 +11,7 @@ use lib.ListN.{length, take, drop}
 use Rattle.model.specs.Basics.{if_then_else_, given}
 use Rattle.model.specs.Letter.{tenYear, twoYear, covered}
 use Rattle.model.specs.Field.{fields, field, letterIn}
-use Rattle.model.specs.Record.{Word, LINE, RATE, PATT, YEAR, SUM, OTHER, wordOf, fieldCount, firstNumber, allWritten, callFrom}
+use Rattle.model.specs.Record.{Word, LINE, RATE, RATE-ALONE, PATT, YEAR, SUM, MIDT, OTHER, wordOf, formOf, recordOf, fieldCount, firstNumber, allWritten, callFrom}
 use Rattle.model.specs.Question.{longest, isShort, hasWord, hasLetter, hasFields, isWellWritten, isWithinLimits, lineQuestions, firstNo}
 use Rattle.model.proofs.Lists.{and-left, and-right}
 use Rattle.refusal.specs.declared.Refusal.the-variants.{TooLong, UnknownWord, UncoveredLetter, WrongCount, BadlyWritten}
@@ -36,9 +36,11 @@ two false a b p q = q
 pub room : (word : Word) (letter : ℕ) → hasWord word ≡ true → (firstNumber word ≤ fieldCount word letter) × (fieldCount word letter ≤ 62)
 room LINE letter h = omega arith
 room RATE letter h = omega arith
+room RATE-ALONE letter h = omega arith
 room PATT letter h = two (tenYear letter) 23 7 (omega arith) (omega arith)
 room YEAR letter h = two (tenYear letter) 36 12 (omega arith) (omega arith)
 room SUM letter h = omega arith
+room MIDT letter h = omega arith
 room OTHER letter h = absurd (false≢true h)
 
 -- another word asks nothing
@@ -83,9 +85,11 @@ lettered-is : (word : Word) (fs : List (List ℕ)) → hasLetter (callFrom word 
 unfolding callFrom tenYear twoYear
 lettered-is LINE fs = refl
 lettered-is RATE fs = refl
+lettered-is RATE-ALONE fs = refl
 lettered-is PATT fs = refl
 lettered-is YEAR fs = refl
 lettered-is SUM fs = refl
+lettered-is MIDT fs = refl
 lettered-is OTHER fs = refl
 
 -- a record with a covered letter has a second field
@@ -98,9 +102,11 @@ second-there (f ∷ g ∷ fs) h = omega arith
 before-there : (word : Word) (s : List ℕ) → isLettered word (letterIn (fields s)) ≡ true → firstNumber word ≤ length (fields s)
 before-there LINE s h = second-there (fields s) h
 before-there RATE s h = some-field s
+before-there RATE-ALONE s h = some-field s
 before-there PATT s h = second-there (fields s) h
 before-there YEAR s h = second-there (fields s) h
 before-there SUM s h = second-there (fields s) h
+before-there MIDT s h = some-field s
 before-there OTHER s h = absurd (false≢true h)
 
 module _ (s : List ℕ) (word : Word) (letter : ℕ) (el : letter ≡ letterIn (fields s)) where
@@ -130,7 +136,7 @@ table : (a b c d e f : Bool) (fs : List (List ℕ)) (minus ms : List Bool) (size
     → let questions : List (ℕ × Bool) = (1, a) ∷ (2, b) ∷ (3, c) ∷ (4, d) ∷ (5, e) ∷ (6, f) ∷ [] in
     let left = given (firstNo (take 3 questions)) in
     _≡_ {A = LineRead} (record { request = answered (firstNo (take 5 questions)) fs; minus = if left then minus else ms; sizes = if left then sizes else ns })
-    (if a then (if b then (if c then (record { request = if d then (if e then asking (wordOf (field 0 fs)) fs else refusedFor BadlyWritten) else refusedFor WrongCount; minus = ms; sizes = ns }) else unread UncoveredLetter minus sizes) else unread UnknownWord minus sizes) else unread TooLong minus sizes)
+    (if a then (if b then (if c then (record { request = if d then (if e then asking (recordOf fs) fs else refusedFor BadlyWritten) else refusedFor WrongCount; minus = ms; sizes = ns }) else unread UncoveredLetter minus sizes) else unread UnknownWord minus sizes) else unread TooLong minus sizes)
 unfolding refusalOf
 table false b c d e f fs minus ms sizes ns = refl
 table true false c d e f fs minus ms sizes ns = refl
@@ -139,19 +145,19 @@ table true true true false e f fs minus ms sizes ns = refl
 table true true true true false f fs minus ms sizes ns = refl
 table true true true true true f fs minus ms sizes ns = refl
 
-read-from : (s : List ℕ) (minus : List Bool) (sizes : List ℕ) → readOf s minus sizes ≡ (if isShort s then fromWord (wordOf (field 0 (fields s))) (fields s) minus sizes else unread TooLong minus sizes)
+read-from : (s : List ℕ) (minus : List Bool) (sizes : List ℕ) → readOf s minus sizes ≡ (if isShort s then fromWord (recordOf (fields s)) (fields s) minus sizes else unread TooLong minus sizes)
 unfolding readOf lineQuestions
 read-from s minus sizes =
-    let word = wordOf (field 0 (fields s)) in
+    let word = recordOf (fields s) in
     let call = callFrom word (fields s) in
     table (isShort s) (hasWord word) (hasLetter call) (hasFields word (fields s)) (isWellWritten word (fields s)) (isWithinLimits call) (fields s) minus (withNumbers hasMinus word (fields s) minus) sizes (withNumbers capped word (fields s) sizes)
 
 -- the code's limit is the longest: no more where a line is read, and no less where it is not
 module _ (s : List ℕ) (minus : List Bool) (sizes : List ℕ) (q : Request) where
-  pub read-is : (limit : ℕ) (word : Word) (f : List ℕ) (ms : List Bool) (ns : List ℕ) → length s ≤ limit → leb limit longest ≡ true → f ≡ field 0 (fields s) → word ≡ wordOf f → Gives (fromWord word (fields s) minus sizes) q ms ns → Gives (readOf s minus sizes) q ms ns
-  read-is limit word f ms ns le low ef ew h =
-      let w : word ≡ wordOf (field 0 (fields s)) = rw ef at ew in
-      rw (read-from s minus sizes, le-leb (length s) longest (omega (arith, leb-true limit longest low))) (rw w at h)
+  pub read-is : (limit : ℕ) (f : List ℕ) (first word : Word) (ms : List Bool) (ns : List ℕ) → length s ≤ limit → leb limit longest ≡ true → f ≡ field 0 (fields s) → first ≡ wordOf f → word ≡ formOf first (length (fields s)) → Gives (fromWord word (fields s) minus sizes) q ms ns → Gives (readOf s minus sizes) q ms ns
+  read-is limit f first word ms ns le low ef e1 ew h =
+      let is : word ≡ recordOf (fields s) = rw (e1, ef) at ew in
+      rw (read-from s minus sizes, le-leb (length s) longest (omega (arith, leb-true limit longest low))) (rw is at h)
 
   pub read-not : (limit : ℕ) → limit < length s → leb longest limit ≡ true → q ≡ refusedFor TooLong → Gives (readOf s minus sizes) q minus sizes
   read-not limit lt high eq = rw (read-from s minus sizes, lt-leb (length s) longest (omega (arith, leb-true longest limit high))) record { request = eq; signs = refl; values = refl }

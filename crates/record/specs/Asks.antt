@@ -7,14 +7,14 @@ use mathlib.Core.Path.{_≡_}
 use Prim.Native.Nat.{ℕ, suc, _+_, _*_, _≤_, _<_}
 use lib.ListN.{getD, take, drop}
 use Rattle.model.specs.Letter.{ages}
-use Rattle.model.specs.Call.{Call, declare, setRate, addPattern, closeYear, totals}
+use Rattle.model.specs.Call.{Call, declare, setRate, addPattern, closeYear, totals, registerMonth, setRateFromRegister}
 use Rattle.model.specs.Question.{lineQuestions, callQuestions, firstNo}
 use Rattle.model.specs.Step as model
 use Rattle.refusal.specs.Number.{numberOf}
 use Rattle.numbers.specs.Number.{most}
 use Rattle.record.specs.Column.{each, sizeAt, paidAt}
 use Rattle.record.specs.declared.request.Asked.{Asked}
-use Rattle.record.specs.declared.request.Asked.the-variants.{Refused, Declare, SetRate, AddPattern, CloseYear, Totals}
+use Rattle.record.specs.declared.request.Asked.the-variants.{Refused, Declare, SetRate, AddPattern, CloseYear, Totals, RegisterMonth, SetRateFromRegister}
 
 -- the calls of a PATT and of a YEAR: the model's `callFrom`, of signs and sizes in place of fields
 abbrev pub patternOf : ℕ → List ℕ → Call
@@ -41,3 +41,5 @@ Says SetRate letter minus sizes line = Asks line (setRate (getD sizes 1 0) (take
 Says AddPattern letter minus sizes line = Asks line (patternOf letter sizes)
 Says CloseYear letter minus sizes line = Asks line (yearOf letter minus sizes) × Low (suc (ages letter)) sizes
 Says Totals letter minus sizes line = Asks line (totals letter)
+Says RegisterMonth letter minus sizes line = Asks line (registerMonth (getD sizes 1 0) (getD sizes 2 0) (getD sizes 3 0))
+Says SetRateFromRegister letter minus sizes line = Asks line (setRateFromRegister (getD sizes 1 0))

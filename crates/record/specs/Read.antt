@@ -32,7 +32,7 @@ fromLetter word fs minus sizes = if hasLetter (callFrom word fs) then fromCount 
 abbrev pub fromWord : Word → List (List ℕ) → List Bool → List ℕ → LineRead
 fromWord word fs minus sizes = if hasWord word then fromLetter word fs minus sizes else unread UnknownWord minus sizes
 
--- one of the five words, the letter, and the fields before the first number
+-- one of the six words, the letter, and the fields before the first number
 pub record Lettered (line : List ℕ) (word : Word) (letter : ℕ) : Type 0 where
   pub known : hasWord word ≡ true
   pub second : letter ≡ letterIn (fields line)

@@ -7,8 +7,8 @@ use mathlib.Core.Path.{_≡_}
 use Prim.Native.Nat.{ℕ}
 use lib.ListN.{take}
 use Rattle.model.specs.Basics.{if_then_else_, given}
-use Rattle.model.specs.Field.{fields, field, letterIn}
-use Rattle.model.specs.Record.{Word, LINE, RATE, PATT, YEAR, SUM, OTHER, wordOf, fieldCount, firstNumber}
+use Rattle.model.specs.Field.{fields, letterIn}
+use Rattle.model.specs.Record.{Word, LINE, RATE, RATE-ALONE, PATT, YEAR, SUM, MIDT, OTHER, recordOf, fieldCount, firstNumber}
 use Rattle.model.specs.Question.{lineQuestions, firstNo}
 use Rattle.refusal.specs.declared.Refusal.{Refusal}
 use Rattle.refusal.specs.declared.Refusal.the-variants.{UnknownWord}
@@ -17,7 +17,7 @@ use Rattle.numbers.specs.Number.{capped, hasMinus}
 use Rattle.record.specs.Gather.{gathered}
 use Rattle.record.specs.declared.request.Request.{Request}
 use Rattle.record.specs.declared.request.Asked.{Asked}
-use Rattle.record.specs.declared.request.Asked.the-variants.{Refused, Declare, SetRate, AddPattern, CloseYear, Totals}
+use Rattle.record.specs.declared.request.Asked.the-variants.{Refused, Declare, SetRate, AddPattern, CloseYear, Totals, RegisterMonth, SetRateFromRegister}
 
 -- a refusal and nothing else
 abbrev pub refusedFor : Refusal → Request
@@ -27,9 +27,11 @@ refusedFor refusal = record { asked = Refused refusal; letter = 0 }
 abbrev pub askedOf : Word → Asked
 askedOf LINE = Declare
 askedOf RATE = SetRate
+askedOf RATE-ALONE = SetRateFromRegister
 askedOf PATT = AddPattern
 askedOf YEAR = CloseYear
 askedOf SUM = Totals
+askedOf MIDT = RegisterMonth
 askedOf OTHER = Refused UnknownWord
 
 -- the request of a word's call, with the byte of its letter
@@ -39,7 +41,7 @@ asking word fs = record { asked = askedOf word; letter = letterIn fs }
 -- "A "no" refuses with that question's number."; or the call that is asked
 abbrev pub answered : Option ℕ → List (List ℕ) → Request
 answered (some question) fs = refusedFor (refusalOf question)
-answered none fs = asking (wordOf (field 0 fs)) fs
+answered none fs = asking (recordOf fs) fs
 
 -- a list with what g gives of each number of a record, at its field's place
 abbrev pub withNumbers : {A : Type 0} → (List ℕ → A) → Word → List (List ℕ) → List A → List A
@@ -48,7 +50,7 @@ withNumbers g word fs list = gathered g word (firstNumber word) (fieldCount word
 -- a lent list: as it was, where one of questions 1 to 3 is answered no; else with the numbers, up to the first that is not well written
 abbrev pub leftIn : {A : Type 0} → (List ℕ → A) → List ℕ → List A → List A
 leftIn g line list =
-    if given (firstNo (take 3 (lineQuestions line))) then list else withNumbers g (wordOf (field 0 (fields line))) (fields line) list
+    if given (firstNo (take 3 (lineQuestions line))) then list else withNumbers g (recordOf (fields line)) (fields line) list
 
 -- the request, by questions 1 to 5, and the lists of signs and sizes
 pub record LineRead : Type 0 where

@@ -9,6 +9,7 @@ use form::form::first_number;
 use form::letter::is_lettered;
 use form::letter::letter_of;
 use form::word::Word;
+use form::word::form_of;
 use form::word::is_word;
 use form::word::word_of;
 use refusal::Refusal;
@@ -40,9 +41,11 @@ fn asked_of(word: Word) -> Asked
     match word {
         Word::Line => Asked::Declare,
         Word::Rate => Asked::SetRate,
+        Word::RateAlone => Asked::SetRateFromRegister,
         Word::Patt => Asked::AddPattern,
         Word::Year => Asked::CloseYear,
         Word::Sum => Asked::Totals,
+        Word::Midt => Asked::RegisterMonth,
         Word::Other => Asked::Refused(Refusal::UnknownWord),
     }
 }
@@ -99,7 +102,7 @@ pub fn read(line: &[u8], minus: &mut [bool; 62], sizes: &mut [u64; 62]) -> Reque
     ensures { λ r. ⌜ Gives (readOf (now (line .entry)) (now (minus .entry)) (now (sizes .entry))) r (now (minus .exit)) (now (sizes .exit)) ⌝ }
 {
     if line.len() <= LONGEST {
-        let word = word_of(first(line));
+        let word = form_of(word_of(first(line)), line);
         return ask_word(line, word, minus, sizes);
     }
     refused(Refusal::TooLong)

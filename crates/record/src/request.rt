@@ -1,4 +1,4 @@
-// What a line asks of the book: a call of one of the five kinds, or nothing, where one of questions 1 to 5 is answered no.
+// What a line asks of the book: a call of one of the seven kinds, or nothing, where one of questions 1 to 5 is answered no.
 use refusal::Refusal;
 
 // What is wrong at the first question that is answered no; or the kind of the call.
@@ -9,6 +9,8 @@ pub enum Asked {
     AddPattern,
     CloseYear,
     Totals,
+    RegisterMonth,
+    SetRateFromRegister,
 }
 
 // The letter is the byte that the second field is, and 0 where that is not one byte, or the line is refused.

@@ -5,7 +5,7 @@ use Prim.Native.Nat.{ℕ}
 use lib.Dec.{eqb}
 use Rattle.model.specs.Basics.{if_then_else_}
 use Rattle.refusal.specs.declared.Refusal.{Refusal}
-use Rattle.refusal.specs.declared.Refusal.the-variants.{TooLong, UnknownWord, UncoveredLetter, WrongCount, BadlyWritten, OutsideLimits, AlreadyGiven, NotDeclared, NoRate, OutOfTurn, IncurredTooSmall, RatioFalls, NoPattern}
+use Rattle.refusal.specs.declared.Refusal.the-variants.{TooLong, UnknownWord, UncoveredLetter, WrongCount, BadlyWritten, OutsideLimits, AlreadyGiven, NotDeclared, NoRate, OutOfTurn, IncurredTooSmall, RatioFalls, NoPattern, NoMonth}
 
 -- the number of the question that each refusal answers no
 abbrev pub numberOf : Refusal → ℕ
@@ -22,6 +22,7 @@ numberOf OutOfTurn = 10
 numberOf IncurredTooSmall = 11
 numberOf RatioFalls = 12
 numberOf NoPattern = 13
+numberOf NoMonth = 14
 
 -- the refusal that has a number, of those listed; the last one, where none has it
 abbrev pub numbered : ℕ → Refusal → List Refusal → Refusal
@@ -30,7 +31,7 @@ numbered question last (refusal ∷ refusals) = if eqb (numberOf refusal) questi
 
 unfoldable pub refusalOf : ℕ → Refusal
 refusalOf question =
-    numbered question NoPattern
+    numbered question NoMonth
     (TooLong
     ∷ UnknownWord
     ∷ UncoveredLetter
@@ -43,4 +44,5 @@ refusalOf question =
     ∷ OutOfTurn
     ∷ IncurredTooSmall
     ∷ RatioFalls
+    ∷ NoPattern
     ∷ [])

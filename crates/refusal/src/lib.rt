@@ -2,7 +2,7 @@
 ghost use mathlib.Core.Path.{_≡_};
 ghost use Rattle.refusal.specs.Number.{numberOf};
 
-// What is wrong where a question is answered no: 1 to 13, in document 01's order.
+// What is wrong where a question is answered no: 1 to 13, in document 01's order, and F-4's 14.
 pub enum Refusal {
     TooLong,
     UnknownWord,
@@ -17,6 +17,7 @@ pub enum Refusal {
     IncurredTooSmall,
     RatioFalls,
     NoPattern,
+    NoMonth,
 }
 
 // What questions come to: none is answered no, or what is wrong at the first that is.
@@ -44,6 +45,7 @@ impl Refusal {
             Refusal::IncurredTooSmall => 11,
             Refusal::RatioFalls => 12,
             Refusal::NoPattern => 13,
+            Refusal::NoMonth => 14,
         }
     }
 }

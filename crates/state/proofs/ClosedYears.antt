@@ -15,9 +15,10 @@ use Rattle.line_limits.specs.Totals.{totalsOf, Within}
 use Rattle.state.specs.Store.{size}
 use Rattle.state.specs.Lines.{Limited, withLineOf, withClosingOf}
 use Rattle.state.specs.Totals.{withTotalsOf}
+use Rattle.state.specs.Months.{registerOf}
 use Rattle.state.specs.View.{lineOf, linesOf}
 use Rattle.state.proofs.LinePieces as line
-use Rattle.state.proofs.TotalPieces.{totals-here, totals-beside, lines-same, slots-same, totals-long}
+use Rattle.state.proofs.TotalPieces.{totals-here, totals-beside, lines-same, slots-same, register-same, totals-long}
 use Rattle.state.proofs.Views.{kept-same, line-aside, line-same, shown-same, put-shown}
 
 module _ (store : List ℕ) (letter year amount : ℕ) (old : Line) (totals : Totals) (c : covered letter ≡ true) (n : length store ≡ size) (y : isYear year ≡ true) (l : Limited letter (withClosingOf old year amount)) (w : Within year totals) where
@@ -48,3 +49,7 @@ module _ (store : List ℕ) (letter year amount : ℕ) (old : Line) (totals : To
   year-put =
       put-shown store later letter new (line.line-here middle letter new c long l) elsewhere
       ∙ ap (put (linesOf store) letter) (line-same middle later letter (line-aside middle letter new c long letter) new ∙ closed-shown)
+
+  -- and the register, as it was
+  pub year-register : registerOf later ≡ registerOf store
+  year-register = line.register-same middle letter new c long ∙ register-same store letter year totals c n

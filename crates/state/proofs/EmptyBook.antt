@@ -14,6 +14,7 @@ use Rattle.model.specs.Letter.{covered}
 use Rattle.model.specs.Book as model
 use Rattle.line_limits.specs.Limits.{limitedOf}
 use Rattle.state.specs.Rates.{ratesOf}
+use Rattle.state.specs.Months.{isDate, monthStart, registerOf}
 use Rattle.state.specs.Store.{piece, size}
 use Rattle.state.specs.Lines.{lineStart, noLine, lineIn, lineAt}
 use Rattle.state.specs.Patterns.{keptBack}
@@ -50,8 +51,16 @@ no-line : (letter : ℕ) → linesOf emptyStore letter ≡ model.empty .lines le
 unfolding linesOf lineOf keptBack
 no-line letter = rw (line-cleared letter (covered letter) refl, zeros-where-none-closed emptyStore letter)
 
+no-month : (year month : ℕ) (t : Bool) → isDate year month ≡ t → registerOf emptyStore year month ≡ none
+unfolding registerOf
+no-month year month true e = rw (e, zero-cell size (monthStart year month))
+no-month year month false e = rw e
+
+no-months : registerOf emptyStore ≡ model.empty .register
+no-months = fun-ext (λ (year : ℕ). fun-ext (λ (month : ℕ). no-month year month (isDate year month) refl))
+
 pub empty-shown : view emptyBook emptyStore ≡ model.empty
-empty-shown = rw (fun-ext (λ (year : ℕ). no-rate year (isYear year) refl), fun-ext (λ (letter : ℕ). no-line letter))
+empty-shown = rw (fun-ext (λ (year : ℕ). no-rate year (isYear year) refl), no-months, fun-ext (λ (letter : ℕ). no-line letter))
 
 -- the loop that clears the store: the cells before place i are 0
 pub record Clearing (store later : List ℕ) (i : ℕ) : Type 0 where

@@ -20,11 +20,12 @@ use Rattle.line_limits.specs.declared.line.Line.{Line}
 use Rattle.state.specs.Store.{size}
 use Rattle.state.specs.Lines.{Limited, withLineOf, withPatternOf}
 use Rattle.state.specs.Patterns.{patternAt, keptBack, slotOf, withSlotOf}
+use Rattle.state.specs.Months.{registerOf}
 use Rattle.state.specs.View.{lineOf, linesOf}
 use Rattle.state.proofs.FactorLimits.{factors-limited, composite-limited}
 use Rattle.state.proofs.Limited.{pattern-limited}
 use Rattle.state.proofs.LinePieces as line
-use Rattle.state.proofs.SlotPieces.{slot-here, other-letters, earlier-years, lines-same, totals-same, slot-long}
+use Rattle.state.proofs.SlotPieces.{slot-here, other-letters, earlier-years, lines-same, totals-same, register-same, slot-long}
 use Rattle.state.proofs.Views.{line-aside, line-same, shown-same, put-shown}
 
 -- n factors, zeros up to ten, and a composite
@@ -123,6 +124,10 @@ module _ (store : List ℕ) (letter year rate : ℕ) (pay : List ℕ) (c : cover
     pattern-put =
         put-shown store last-store letter new (line.line-here later letter new c long (pattern-limited letter old l year y next)) elsewhere
         ∙ ap (put (linesOf store) letter) (line-same later last-store letter (line-aside later letter new c long letter) new ∙ pattern-kept)
+
+    -- and the register, as it was
+    pub pattern-register : registerOf last-store ≡ registerOf store
+    pattern-register = line.register-same later letter new c long ∙ register-same store letter year cells c n eleven-cells
 
     -- and the slot after it
     pub pattern-shown : patternAt last-store letter year ≡ keptPattern letter year rate pay

@@ -7,9 +7,11 @@ pub mod KeptPatterns
 pub mod KeptYears
 pub mod Limited
 pub mod LinePieces
+pub mod MonthPieces
 pub mod Pieces
 pub mod Places
 pub mod RatePlaces
+pub mod Regions
 pub mod SlotPieces
 pub mod TotalPieces
 pub mod Views

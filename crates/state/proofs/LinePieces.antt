@@ -1,4 +1,4 @@
--- A line written: it is read back, every other line is as it was, and so are the slots and the totals.
+-- A line written: it is read back, every other line is as it was, and so are the slots, the totals and the register.
 -- Assumes nothing.
 use mathlib.Core.Bool.{Bool, true, false}
 use mathlib.Core.List.{List}
@@ -16,8 +16,9 @@ use Rattle.state.specs.Store.{piece, written, size}
 use Rattle.state.specs.Lines.{placeOf, lineStart, noLine, lineIn, cellsOf, Limited, lineAt, withLineOf}
 use Rattle.state.specs.Patterns.{slotStart, slotAt}
 use Rattle.state.specs.Totals.{totalsAt}
+use Rattle.state.specs.Months.{registerOf}
 use Rattle.state.proofs.Places.{covered-place, places-differ}
-use Rattle.state.proofs.TotalPieces.{totals-past}
+use Rattle.state.proofs.Regions.{totals-past, register-past}
 use Rattle.state.proofs.Pieces as pieces
 use Rattle.state.proofs.Pieces.{first-or-later}
 
@@ -85,9 +86,12 @@ module _ (store : List ℕ) (letter : ℕ) (line : Line) (c : covered letter ≡
   pub slots-same : (other year : ℕ) → slotAt later other year ≡ slotAt store other year
   slots-same other year = slot-same other year (covered other) refl
 
-  -- and so do the totals
+  -- and so do the totals and the register
   pub totals-same : (other closed : ℕ) → totalsAt later other closed ≡ totalsAt store other closed
   totals-same other closed = rw c (totals-past store (cellsOf line) (lineStart letter) room (omega (arith, covered-place letter c)) other closed)
+
+  pub register-same : registerOf later ≡ registerOf store
+  register-same = rw c (register-past store (cellsOf line) (lineStart letter) room (omega (arith, covered-place letter c)))
 
   pub line-long : length later ≡ size
   line-long = rw c (pieces.long store (cellsOf line) (lineStart letter) room ∙ n)

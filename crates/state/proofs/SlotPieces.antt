@@ -1,4 +1,4 @@
--- A slot written: it holds its cells, every other slot is as it was, and so are the lines and the totals.
+-- A slot written: it holds its cells, every other slot is as it was, and so are the lines, the totals and the register.
 -- Assumes nothing.
 use mathlib.Core.Bool.{Bool, true, false}
 use mathlib.Core.List.{List, [], _∷_, _++_}
@@ -9,11 +9,12 @@ use native.Mathlib.Omega.{arith}
 use lib.ListN.{length, drop, getD, set, replicate, getD-replicate, length-take, List·getD-eq-default}
 use Rattle.model.specs.Letter.{covered}
 use Rattle.state.specs.Store.{piece, written, slotsStart, size}
-use Rattle.state.specs.Lines.{placeOf, lineStart, lineAt}
+use Rattle.state.specs.Lines.{placeOf, lineAt}
 use Rattle.state.specs.Patterns.{slotStart, slotAt, factorIn, factorAt, withSlotOf}
 use Rattle.state.specs.Totals.{totalsAt}
+use Rattle.state.specs.Months.{registerOf}
 use Rattle.state.proofs.Places.{covered-place, places-differ}
-use Rattle.state.proofs.TotalPieces.{totals-past}
+use Rattle.state.proofs.Regions.{lines-before, totals-past, register-past}
 use Rattle.state.proofs.Pieces as pieces
 use Rattle.state.proofs.Pieces.{first-or-later, one-more-cell}
 
@@ -79,17 +80,15 @@ module _ (store : List ℕ) (letter year : ℕ) (cells : List ℕ) (c : covered 
   earlier-years y lt le = rw (c, rw c at (apart (placeOf letter * 10 + y % 10) (λ e. omega arith)))
 
   -- the lines stand before the slots
-  line-same : (other : ℕ) (t : Bool) → covered other ≡ t → lineAt later other ≡ lineAt store other
-  unfolding lineAt
-  line-same other true o = rw (o, c, pieces.before store cells (slotStart letter year) room (lineStart other) 6 (omega (arith, covered-place other o)))
-  line-same other false o = rw o
-
   pub lines-same : (other : ℕ) → lineAt later other ≡ lineAt store other
-  lines-same other = line-same other (covered other) refl
+  lines-same other = rw c (lines-before store cells (slotStart letter year) room (omega arith) other)
 
-  -- the totals stand past the slots
+  -- the totals and the register stand past them
   pub totals-same : (other closed : ℕ) → totalsAt later other closed ≡ totalsAt store other closed
   totals-same other closed = rw c (totals-past store cells (slotStart letter year) room (omega (arith, covered-place letter c)) other closed)
+
+  pub register-same : registerOf later ≡ registerOf store
+  register-same = rw c (register-past store cells (slotStart letter year) room (omega (arith, covered-place letter c)))
 
   pub slot-long : length later ≡ size
   slot-long = rw c (pieces.long store cells (slotStart letter year) room ∙ n)

@@ -1,4 +1,4 @@
--- Totals written: they are read back, those of every other letter are as they were, and so are the lines and the slots.
+-- Totals written: they are read back, those of every other letter are as they were, and so are the lines, the slots and the register.
 -- Assumes nothing.
 use mathlib.Core.Bool.{Bool, true, false}
 use mathlib.Core.List.{List, [], _∷_}
@@ -13,22 +13,14 @@ use Rattle.line_limits.specs.declared.totals.Totals.{Totals}
 use Rattle.line_limits.specs.Totals.{totalsBy, totalsIn, totalCells, Within}
 use Rattle.line_limits.proofs.TotalLimits.{read-within, none-within, kept-back, none-closed}
 use Rattle.state.specs.Store.{piece, written, totalsStart, size}
-use Rattle.state.specs.Lines.{placeOf, lineStart, lineAt}
-use Rattle.state.specs.Patterns.{slotStart, slotAt}
+use Rattle.state.specs.Lines.{placeOf, lineAt}
+use Rattle.state.specs.Patterns.{slotAt}
 use Rattle.state.specs.Totals.{totalStart, totalsAt, withTotalsOf}
+use Rattle.state.specs.Months.{registerOf}
 use Rattle.state.proofs.Places.{covered-place, places-differ}
+use Rattle.state.proofs.Regions.{lines-before, slots-before, register-past}
 use Rattle.state.proofs.Pieces as pieces
 use Rattle.state.proofs.Pieces.{first-or-later}
-
--- cells written before the totals leave them as they were
-module _ (store cells : List ℕ) (at : ℕ) (room : at + length cells ≤ length store) (first : at + length cells ≤ totalsStart) where
-  past-by : (letter closed : ℕ) (t : Bool) → covered letter ≡ t → totalsAt (written store at cells) letter closed ≡ totalsAt store letter closed
-  unfolding totalsAt
-  past-by letter closed true c = rw (c, pieces.after store cells at room (totalStart letter) 3 (omega (arith, first)))
-  past-by letter closed false c = rw c
-
-  pub totals-past : (letter closed : ℕ) → totalsAt (written store at cells) letter closed ≡ totalsAt store letter closed
-  totals-past letter closed = past-by letter closed (covered letter) refl
 
 -- what is read is within its limits, and zeros where none is closed
 within-by : (store : List ℕ) (letter closed : ℕ) (t : Bool) → covered letter ≡ t → Within closed (totalsAt store letter closed)
@@ -102,22 +94,15 @@ module _ (store : List ℕ) (letter closed : ℕ) (totals : Totals) (c : covered
   pub totals-beside : (other year : ℕ) → (other ≡ letter → ⊥) → totalsAt later other year ≡ totalsAt store other year
   totals-beside other year differ = beside-by other year differ (covered other) refl
 
-  -- the lines and the slots stand before the totals
-  line-same : (other : ℕ) (t : Bool) → covered other ≡ t → lineAt later other ≡ lineAt store other
-  unfolding lineAt
-  line-same other true o = rw (o, c, pieces.before store cells (totalStart letter) room (lineStart other) 6 (omega (arith, covered-place other o)))
-  line-same other false o = rw o
-
+  -- the lines and the slots stand before the totals, and the register past them
   pub lines-same : (other : ℕ) → lineAt later other ≡ lineAt store other
-  lines-same other = line-same other (covered other) refl
-
-  slot-same : (other year : ℕ) (t : Bool) → covered other ≡ t → slotAt later other year ≡ slotAt store other year
-  unfolding slotAt
-  slot-same other year true o = rw (o, c, pieces.before store cells (totalStart letter) room (slotStart other year) 11 (omega (arith, covered-place other o)))
-  slot-same other year false o = rw o
+  lines-same other = rw c (lines-before store cells (totalStart letter) room (omega arith) other)
 
   pub slots-same : (other year : ℕ) → slotAt later other year ≡ slotAt store other year
-  slots-same other year = slot-same other year (covered other) refl
+  slots-same other year = rw c (slots-before store cells (totalStart letter) room (omega arith) other year)
+
+  pub register-same : registerOf later ≡ registerOf store
+  register-same = rw c (register-past store cells (totalStart letter) room (omega (arith, covered-place letter c, three)))
 
   pub totals-long : length later ≡ size
   totals-long = rw c (pieces.long store cells (totalStart letter) room ∙ n)

@@ -4,7 +4,7 @@ use mathlib.Core.Bool.{Bool, true, false}
 use mathlib.Core.List.{List}
 use mathlib.Core.Option.{none, some}
 use mathlib.Core.Path.{_≡_, refl, ap, _∙_, fun-ext}
-use Prim.Native.Nat.{ℕ, zero, suc, _-_}
+use Prim.Native.Nat.{ℕ, zero, suc, _-_, _≤_}
 use borrow.Author.Tests.{eqb-false}
 use lib.ListN.{length}
 use Rattle.model.specs.Basics.{if_then_else_, given, put}
@@ -15,10 +15,12 @@ use Rattle.line_limits.specs.declared.line.Line.{Line}
 use Rattle.state.specs.Store.{size}
 use Rattle.state.specs.Hints.{withHintOf}
 use Rattle.state.specs.Lines.{Limited, lineAt, withLineOf}
+use Rattle.state.specs.Months.{isDate, withMonthOf}
 use Rattle.state.specs.Patterns.{slotAt, keptBack}
 use Rattle.state.specs.Totals.{totalsAt}
 use Rattle.state.specs.View.{lineOf, linesOf}
 use Rattle.state.proofs.HintPieces as hint
+use Rattle.state.proofs.MonthPieces as kept-month
 use Rattle.state.proofs.LinePieces.{line-here, lines-beside, slots-same, totals-same}
 
 -- patterns in slots that hold the same
@@ -58,9 +60,13 @@ lines-put store letter line c n l =
     put-shown store later letter line (line-here store letter line c n l) (λ other differ. shown-same store later other (lines-beside store letter line c n other differ) (same other))
     ∙ ap (put (linesOf store) letter) (line-same store later letter (same letter) line)
 
--- a hint kept
+-- a hint or a month kept: the lines are as they were
 pub hint-unseen : (store : List ℕ) (year factor : ℕ) → isYear year ≡ true → length store ≡ size → linesOf (withHintOf store year factor) ≡ linesOf store
 hint-unseen store year factor y n = fun-ext (λ letter. shown-same store (withHintOf store year factor) letter (hint.lines-same store year factor y n letter) (record { slots = hint.slots-same store year factor y n letter; totals = hint.totals-same store year factor y n letter }))
+
+pub month-unseen : (store : List ℕ) (year month rate : ℕ) → isDate year month ≡ true → length store ≡ size → rate ≤ 2500 → linesOf (withMonthOf store year month rate) ≡ linesOf store
+month-unseen store year month rate d n le =
+    fun-ext (λ letter. shown-same store (withMonthOf store year month rate) letter (kept-month.lines-same store year month rate d n le letter) (record { slots = kept-month.slots-same store year month rate d n le letter; totals = kept-month.totals-same store year month rate d n le letter }))
 
 -- is the line declared?
 declared-by : (t : Bool) (n : ℕ) → given (if t then some n else none) ≡ t

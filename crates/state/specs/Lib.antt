@@ -1,5 +1,6 @@
 pub mod Hints
 pub mod Lines
+pub mod Months
 pub mod Patterns
 pub mod Rates
 pub mod Store

@@ -12,7 +12,7 @@ piece store at n = take n (drop at store)
 unfoldable pub written : List ℕ → ℕ → List ℕ → List ℕ
 written store at cells = take at store ++ (cells ++ drop (at + length cells) store)
 
--- where the regions start: fifteen lines of six cells from 0 on, ten slots of eleven cells for each, 113 hints, three cells of totals for each line
+-- where the regions start: fifteen lines of six cells from 0 on, ten slots of eleven cells for each, 113 hints, three cells of totals for each line, twelve months for each of 120 years
 abbrev pub slotsStart : ℕ
 slotsStart = 90
 
@@ -22,6 +22,9 @@ hintsStart = 1740
 abbrev pub totalsStart : ℕ
 totalsStart = 1853
 
+abbrev pub monthsStart : ℕ
+monthsStart = 1898
+
 -- how many cells there are
 abbrev pub size : ℕ
-size = 1898
+size = 3338

@@ -12,6 +12,7 @@ use Rattle.line_limits.specs.declared.line.Line.{Line}
 use Rattle.line_limits.specs.Totals.{totalsOf}
 use Rattle.state.specs.Store.{size}
 use Rattle.state.specs.Rates.{ratesOf}
+use Rattle.state.specs.Months.{registerOf}
 use Rattle.state.specs.Lines.{lineAt}
 use Rattle.state.specs.Patterns.{keptBack}
 use Rattle.state.specs.Totals.{totalsAt}
@@ -29,7 +30,7 @@ unfoldable pub linesOf : List ℕ → ℕ → model.Line
 linesOf store letter = lineOf store letter (lineAt store letter)
 
 abbrev pub view : Book → List ℕ → model.Book
-view book store = record { rates = ratesOf (book .rates); lines = linesOf store; accepted = book .accepted; refused = book .refused }
+view book store = record { rates = ratesOf (book .rates); register = registerOf store; lines = linesOf store; accepted = book .accepted; refused = book .refused }
 
 -- "An empty book has no line, rate, pattern or closing, and both counts are 0.": no number of a rate place is a rate, and all cells are 0
 abbrev pub emptyBook : Book

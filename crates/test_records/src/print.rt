@@ -1,5 +1,7 @@
 // A line of output: NO and a question, or a word and all that the record asks, parted by spaces.
+use kinds::month::is_month;
 use kinds::rate::Rate;
+use kinds::register_year::is_register_year;
 use kinds::year::is_year;
 use letters::letter::is_ten_year;
 use libc::STDOUT_FILENO;
@@ -23,6 +25,8 @@ pub fn show(line: &[u8]) {
         Asked::AddPattern => add_pattern(letter, &minus, &sizes),
         Asked::CloseYear => close_year(letter, &minus, &sizes),
         Asked::Totals => word(b"SUM", letter),
+        Asked::RegisterMonth => register_month(&sizes),
+        Asked::SetRateFromRegister => set_rate_from_register(sizes[1]),
     }
     text(b"\n");
 }
@@ -51,6 +55,29 @@ fn set_rate(sizes: &[u64; 62]) {
             numbers(months);
             return;
         }
+    }
+    no(Refusal::OutsideLimits);
+}
+
+fn register_month(sizes: &[u64; 62]) {
+    let all = &sizes[..];
+    if is_register_year(all[1]) {
+        if is_month(all[2]) {
+            if Rate::all(&all[3..4]) {
+                text(b"MIDT");
+                numbers(&all[1..4]);
+                return;
+            }
+        }
+    }
+    no(Refusal::OutsideLimits);
+}
+
+fn set_rate_from_register(year: u64) {
+    if is_year(year) {
+        text(b"RATE");
+        number(year);
+        return;
     }
     no(Refusal::OutsideLimits);
 }

@@ -11,6 +11,7 @@ use std::time::{SystemTime, UNIX_EPOCH};
 use reference::comparison::{difference, special_inputs, Pieces};
 use reference::program::proved_book;
 use reference::stream::random_stream;
+use reference::whole_book::{whole_book_of_register, SEED};
 
 /// A stream that is written byte by byte is no longer than this.
 const RECORDS_IN_SINGLE_BYTES: usize = 500;
@@ -43,7 +44,8 @@ fn seconds_now() -> u64 {
 /// The number of inputs that were compared, or what differed.
 fn compare_all(program: &Path, streams: u64, records: usize, seed: u64) -> Result<u64, String> {
     let mut inputs = 0;
-    for (name, input) in special_inputs() {
+    let register = ("a whole book of the register", whole_book_of_register(SEED));
+    for (name, input) in special_inputs().into_iter().chain([register]) {
         for pieces in [Pieces::Whole, Pieces::Random(seed)] {
             compare(program, &input, pieces, name)?;
             inputs += 1;

@@ -10,7 +10,7 @@ use std::time::Duration;
 
 use reference::program::{proved_book, timed_run};
 use reference::run::records;
-use reference::whole_book::{whole_book, SEED};
+use reference::whole_book::{whole_book, whole_book_of_register, SEED};
 
 /// The whole book is in one file so many times, and alone is run so often.
 const TIMES: usize = 60;
@@ -25,7 +25,7 @@ fn main() -> ExitCode {
     if cfg!(debug_assertions) {
         eprintln!("built without --release: plain_book is slower than it can be");
     }
-    match compare_both_settings(book) {
+    match compare_all_settings(book) {
         Ok(()) => ExitCode::SUCCESS,
         Err(error) => {
             eprintln!("{error}");
@@ -34,7 +34,7 @@ fn main() -> ExitCode {
     }
 }
 
-fn compare_both_settings(proved: PathBuf) -> Result<()> {
+fn compare_all_settings(proved: PathBuf) -> Result<()> {
     let directory = std::env::temp_dir().join(format!("compare_speed.{}", std::process::id()));
     std::fs::create_dir(&directory)?;
     let comparison = Comparison {
@@ -42,14 +42,12 @@ fn compare_both_settings(proved: PathBuf) -> Result<()> {
         plain: std::env::current_exe()?.with_file_name("plain_book"),
         directory,
     };
-    let book = whole_book(SEED);
     let result = comparison
-        .run(
-            "one file: the whole book 60 times over",
-            &book.repeat(TIMES),
-            RUNS,
-        )
-        .and_then(|()| comparison.run("the whole book alone, 60 runs", &book, TIMES));
+        .of_book("the whole book", &whole_book(SEED))
+        .and_then(|()| {
+            let book = whole_book_of_register(SEED);
+            comparison.of_book("the whole book with its rates from the register", &book)
+        });
     std::fs::remove_dir_all(&comparison.directory)?;
     result
 }
@@ -62,6 +60,13 @@ struct Comparison {
 }
 
 impl Comparison {
+    /// The book many times over in one file, and alone.
+    fn of_book(&self, name: &str, book: &[u8]) -> Result<()> {
+        let many = book.repeat(TIMES);
+        self.run(&format!("one file: {name} 60 times over"), &many, RUNS)?;
+        self.run(&format!("{name} alone, 60 runs"), book, TIMES)
+    }
+
     /// Runs both programs in turn and prints their best times.
     fn run(&self, setting: &str, input: &[u8], runs: usize) -> Result<()> {
         let input_file = self.directory.join("input");

@@ -2,7 +2,9 @@
 
 use super::earlier_records::{EarlierRecords, Subject};
 use super::line_names::described;
+use super::months::span_words;
 use super::pattern_sheet::PatternSheet;
+use super::register_sheet::RegisterSheet;
 use super::report::{labelled, paragraph, Block};
 use super::shown::{capitalized, percent, thousands};
 use super::totals_sheet::TotalsSheet;
@@ -11,8 +13,9 @@ use crate::answer::Answer;
 use crate::book::Book;
 use crate::kinds::Letter;
 use crate::pattern::CumulativeRow;
-use crate::rate::accident_year_rate;
+use crate::rate::{accident_year_rate, MONTHS};
 use crate::record::Request;
+use crate::register::months_of_rate;
 use crate::reserve::Row;
 
 /// An accepted record: its answer, the book that it left, the lines before it.
@@ -29,11 +32,24 @@ impl Accepted<'_> {
             Request::Rate {
                 year,
                 monthly_rates,
-            } => rate_blocks(*year, monthly_rates),
+            } => rate_blocks(*year, "The sixty monthly rates", monthly_rates),
+            Request::RateOfRegister { year } => self.rate_of_register_blocks(*year),
+            Request::MonthlyRate { month, rate } => {
+                let (month, rate, book) = (*month, *rate, self.book);
+                RegisterSheet { month, rate, book }.blocks()
+            }
             Request::Pattern { letter, year, rows } => self.pattern_blocks(*letter, *year, rows),
             Request::Year { letter, year, rows } => self.year_blocks(*letter, *year, rows),
             Request::Sum { letter } => self.sum_blocks(*letter),
         }
+    }
+
+    fn rate_of_register_blocks(&self, year: u64) -> Vec<Block> {
+        let months = months_of_rate(year);
+        let window = span_words(months[0], months[MONTHS - 1]);
+        let rates = self.book.register.rates_of(year).unwrap_or_default();
+        let what = format!("The sixty rates of the register from {window}");
+        rate_blocks(year, &what, &rates)
     }
 
     fn pattern_blocks(&self, letter: Letter, year: u64, rows: &[CumulativeRow]) -> Vec<Block> {
@@ -106,14 +122,15 @@ fn line_blocks(letter: Letter, opening: u64) -> Vec<Block> {
     ))]
 }
 
-fn rate_blocks(year: u64, monthly_rates: &[u64]) -> Vec<Block> {
+/// A RATE, and what its sixty rates are.
+fn rate_blocks(year: u64, what: &str, monthly_rates: &[u64]) -> Vec<Block> {
     let sum: u64 = monthly_rates.iter().sum();
     let rate = accident_year_rate(monthly_rates);
     let sum = thousands(sum);
     vec![
         paragraph(format!(
-            "The sixty monthly rates sum to {sum}. Accident year {year} is discounted at {}, in \
-             every line and for good.",
+            "{what} sum to {sum}. Accident year {year} is discounted at {}, in every line and for \
+             good.",
             percent(rate)
         )),
         labelled(

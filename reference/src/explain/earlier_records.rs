@@ -5,6 +5,7 @@ use std::collections::BTreeMap;
 use super::record_names::WORDS;
 use crate::kinds::Letter;
 use crate::question::Question;
+use crate::register::Month;
 
 /// What a record is about. It is read loosely, so that a record which is
 /// refused for its form has one too: small letters, quotes, blanks or commas
@@ -14,6 +15,8 @@ pub struct Subject {
     pub word: &'static str,
     pub letter: Option<Letter>,
     pub year: Option<u64>,
+    /// The month of a MIDT, January as 1.
+    pub month: Option<u64>,
 }
 
 /// The first fields of a record stand in so many bytes.
@@ -36,8 +39,22 @@ impl Subject {
         Subject::new("YEAR", Some(letter), Some(year))
     }
 
+    pub fn of_month(month: Month) -> Subject {
+        Subject::of_register(Some(month.year), Some(month.number))
+    }
+
+    fn of_register(year: Option<u64>, month: Option<u64>) -> Subject {
+        let subject = Subject::new("MIDT", None, year);
+        Subject { month, ..subject }
+    }
+
     fn new(word: &'static str, letter: Option<Letter>, year: Option<u64>) -> Subject {
-        Subject { word, letter, year }
+        Subject {
+            word,
+            letter,
+            year,
+            month: None,
+        }
     }
 
     /// Nothing if no word can be made out.
@@ -51,20 +68,21 @@ impl Subject {
                 .get(1)
                 .and_then(|word| Letter::covered(word.as_bytes()))
         };
-        let year = |place: usize| words.get(place).and_then(|word| word.parse().ok());
+        let number = |place: usize| words.get(place).and_then(|word| word.parse().ok());
         Some(match word {
             "LINE" | "SUM" => Subject::new(word, letter(), None),
-            "RATE" => Subject::new(word, None, year(1)),
-            _ => Subject::new(word, letter(), year(2)),
+            "RATE" => Subject::new(word, None, number(1)),
+            "MIDT" => Subject::of_register(number(1), number(2)),
+            _ => Subject::new(word, letter(), number(2)),
         })
     }
 
-    /// "PATT J 2015"
+    /// "PATT J 2015", "MIDT 1982 1"
     pub fn described(&self) -> String {
         let letter = self.letter.map(|letter| letter.character().to_string());
-        let year = self.year.map(|year| year.to_string());
+        let [year, month] = [self.year, self.month].map(|number| number.map(|n| n.to_string()));
         let word = Some(self.word.to_string());
-        let parts: Vec<String> = [word, letter, year].into_iter().flatten().collect();
+        let parts: Vec<String> = [word, letter, year, month].into_iter().flatten().collect();
         parts.join(" ")
     }
 }

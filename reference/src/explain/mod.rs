@@ -2,9 +2,10 @@
 //!
 //! The records go through the book one by one, and each gets its part of the
 //! `report`: `accepted` says what an answer means, with the sheets of a PATT, a
-//! YEAR and a SUM (`pattern_sheet`, `year_sheet`, `totals_sheet`); `refusal` says
-//! which question was answered no and where, with a file for each group of them.
-//! `earlier_records` knows the lines before. `text` and `page` write the report.
+//! YEAR, a SUM and a MIDT (`pattern_sheet`, `year_sheet`, `totals_sheet`,
+//! `register_sheet`); `refusal` says which question was answered no and where,
+//! with a file for each group of them. `earlier_records` knows the lines before.
+//! `text` and `page` write the report.
 //!
 //! A new record is explained in `accepted` and named in `record_names`; a new
 //! question is put in words in `refusal`.
@@ -13,6 +14,7 @@ mod accepted;
 mod earlier_records;
 mod exact_decimals;
 mod line_names;
+mod months;
 pub mod page;
 mod pattern_sheet;
 pub mod plot;
@@ -20,8 +22,10 @@ mod record_names;
 mod refusal;
 mod refused_figures;
 mod refused_form;
+mod refused_months;
 mod refused_numbers;
 mod refused_turn;
+mod register_sheet;
 pub mod report;
 mod shown;
 pub mod text;

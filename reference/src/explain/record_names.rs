@@ -2,10 +2,11 @@
 
 use crate::kinds::{Letter, NumberKind};
 use crate::rate::MONTHS;
-use crate::record::{line_numbers, pattern_numbers, rate_numbers, year_numbers};
+use crate::record::{line_numbers, monthly_rate_numbers, pattern_numbers};
+use crate::record::{rate_numbers, year_numbers};
 
 /// The words that a record begins with.
-pub const WORDS: [&str; 5] = ["LINE", "RATE", "PATT", "YEAR", "SUM"];
+pub const WORDS: [&str; 6] = ["LINE", "RATE", "PATT", "YEAR", "SUM", "MIDT"];
 
 /// A field that holds a number. Places are counted from 1.
 pub struct NumberField {
@@ -23,11 +24,12 @@ impl NumberField {
 }
 
 /// The numbers of a record that begins with these fields, in their order. They
-/// are the last fields of every record.
+/// are the last fields of every record, and of a RATE those of the long one.
 pub fn number_fields(word: &[u8], second_field: &[u8]) -> Vec<NumberField> {
     match (word, Letter::covered(second_field)) {
         (b"LINE", _) => from_place(3, vec!["opening".to_string()], line_numbers()),
         (b"RATE", _) => from_place(2, rate_names(), rate_numbers()),
+        (b"MIDT", _) => from_place(2, monthly_rate_names(), monthly_rate_numbers()),
         (b"PATT", Some(letter)) => from_place(3, pattern_names(letter), pattern_numbers(letter)),
         (b"YEAR", Some(letter)) => from_place(3, year_names(letter), year_numbers(letter)),
         _ => Vec::new(),
@@ -50,6 +52,10 @@ fn rate_names() -> Vec<String> {
     let mut names = vec!["accident year".to_string()];
     names.extend((1..=MONTHS).map(|month| format!("rate of month {month}")));
     names
+}
+
+fn monthly_rate_names() -> Vec<String> {
+    ["year", "month", "rate"].map(str::to_string).into()
 }
 
 fn pattern_names(letter: Letter) -> Vec<String> {

@@ -4,6 +4,7 @@ use super::earlier_records::EarlierRecords;
 use super::record_names::WORDS;
 use super::refused_figures::{falling_ratios, paid_not_within_incurred, rows_without_pattern};
 use super::refused_form::{covered_letter, field_count, first_word, line_length};
+use super::refused_months::months_lacking;
 use super::refused_numbers::{badly_written, past_limits};
 use super::refused_turn::{given_before, not_declared, not_in_turn, without_rate};
 use super::report::{paragraph, Block};
@@ -69,7 +70,9 @@ fn in_words(question: Question) -> String {
         Question::FieldCount => "Is the count of fields right?",
         Question::WellWritten => "Is every number well written?",
         Question::WithinLimits => "Is every number within its limits?",
-        Question::StillToBeGiven => "Is that line, or that year's rate, still to be given?",
+        Question::StillToBeGiven => {
+            "Is that line, that year's rate or that month's rate still to be given?"
+        }
         Question::LineDeclared => "Is the line declared?",
         Question::YearHasRate => "Has the accident year a rate?",
         Question::YearInTurn => "Does the record come in turn?",
@@ -78,6 +81,7 @@ fn in_words(question: Question) -> String {
         }
         Question::NoRatioFalls => "Does no cumulative ratio fall from one age to the next?",
         Question::PatternKept => "Has every age row with a gross above 0 a kept pattern?",
+        Question::MonthsGiven => "Has the register all sixty months of this RATE?",
     }
     .to_string()
 }
@@ -97,6 +101,7 @@ fn fault(question: Question, refused: &Refused) -> Fault {
         Question::PaidWithinIncurred => paid_not_within_incurred(refused),
         Question::NoRatioFalls => falling_ratios(refused),
         Question::PatternKept => rows_without_pattern(refused),
+        Question::MonthsGiven => months_lacking(refused),
     }
 }
 

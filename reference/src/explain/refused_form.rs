@@ -7,7 +7,8 @@ use super::refusal::{Fault, Refused};
 use super::shown::{counted, quoted, thousands, WINDOWS_LINE_ENDS};
 use crate::kinds::{Letter, TEN_YEAR_LETTERS, TWO_YEAR_LETTERS};
 use crate::question::Question;
-use crate::record::LONGEST_LINE;
+use crate::rate::MONTHS;
+use crate::record::{LONGEST_LINE, SHORT_RATE_FIELDS};
 
 /// The words, if the cause shows.
 fn hint(shows: bool, words: impl Into<String>) -> Option<String> {
@@ -187,16 +188,34 @@ fn covered_letters() -> String {
 pub fn field_count(refused: &Refused) -> Fault {
     let found = refused.fields.len();
     let numbers = number_fields(refused.word(), refused.second_field());
-    let expected = count_of_fields(refused.word(), refused.second_field());
+    let expected = expected_count(refused);
+    let or_two = if refused.word() == b"RATE" {
+        ", or 2 with its year alone"
+    } else {
+        ""
+    };
     let place = format!(
-        "there are {}, and {} has {expected}",
+        "there {} {}, and {} has {}{or_two}",
+        if found == 1 { "is" } else { "are" },
         counted(found, "field"),
-        record_name(refused)
+        record_name(refused),
+        count_of_fields(refused.word(), refused.second_field())
     );
-    let mut missing = numbers.iter().filter(|number| number.place > found);
+    let is_too_short = |number: &&NumberField| number.place > found && found < expected;
+    let mut missing = numbers.iter().filter(is_too_short);
     let ends = |first: &NumberField| format!("{place}: it ends before {}", first.described());
     let place = missing.next().map_or(place.clone(), ends);
     Fault::at(place, hints_of_count(refused, expected))
+}
+
+/// How many fields the record was to have: a RATE whose third field and all
+/// after it are empty is a short one.
+fn expected_count(refused: &Refused) -> usize {
+    let filled = refused.fields.len() - empty_at_end(&refused.fields);
+    if refused.word() == b"RATE" && filled == SHORT_RATE_FIELDS {
+        return SHORT_RATE_FIELDS;
+    }
+    count_of_fields(refused.word(), refused.second_field())
 }
 
 /// "a PATT of a two-year line", "a RATE"
@@ -241,8 +260,48 @@ fn hints_of_count(refused: &Refused, expected: usize) -> Vec<String> {
         ),
         hint(blank, "blanks stand in a field: a tab parts two fields"),
         hint_of_sum(refused),
+        hint_of_rate(refused),
+        hint_of_month(refused),
     ];
     hints.into_iter().flatten().collect()
+}
+
+/// The fields that hold digits alone, up to the first that does not.
+fn numbers_at_start<'a>(fields: &[&'a [u8]]) -> Vec<&'a [u8]> {
+    let is_number = |field: &&&[u8]| !field.is_empty() && field.iter().all(u8::is_ascii_digit);
+    fields.iter().take_while(is_number).copied().collect()
+}
+
+/// A RATE with too few or too many rates, or one that looks like a MIDT.
+fn hint_of_rate(refused: &Refused) -> Option<String> {
+    let (b"RATE", [_, _, rates @ ..]) = (refused.word(), &refused.fields[..]) else {
+        return None;
+    };
+    let count = rates.len() - empty_at_end(rates);
+    match (count, numbers_at_start(rates).len()) {
+        (0 | MONTHS, _) => None,
+        (2, 2) if rates[0].len() < 3 => {
+            Some("a year, a month and one rate: a MIDT has these".to_string())
+        }
+        _ if count + 12 > MONTHS => Some(format!(
+            "{} where a RATE has sixty, or none",
+            counted(count, "rate")
+        )),
+        _ => Some("a RATE has sixty rates, or none: then those of the register count".to_string()),
+    }
+}
+
+/// A MIDT that looks like a RATE, or has more months than one.
+fn hint_of_month(refused: &Refused) -> Option<String> {
+    let (b"MIDT", fields) = (refused.word(), &refused.fields[..]) else {
+        return None;
+    };
+    match fields.len() - empty_at_end(fields) {
+        2 => Some("a year alone: a RATE has this, and a MIDT a month and its rate too".to_string()),
+        3 => Some("a MIDT has a year, a month and one rate".to_string()),
+        0..=4 => None,
+        _ => Some("a MIDT has the rate of one month: give a MIDT for each".to_string()),
+    }
 }
 
 /// What stands after the letter of a SUM.

@@ -30,9 +30,11 @@ pub fn badly_written(refused: &Refused) -> Fault {
     };
     let windows = wrong.iter().any(|(_, field)| field.ends_with(b"\r"));
     let point = wrong.iter().find(|(_, field)| field.contains(&b'.'));
+    let month = wrong.iter().any(is_month_in_letters);
     let hints = [
         windows.then_some(WINDOWS_LINE_ENDS),
         point.and_then(|(number, _)| hint_of_point(number.kind)),
+        month.then_some(MONTHS_ARE),
     ];
     Fault {
         places: wrong.iter().map(place).collect(),
@@ -43,7 +45,7 @@ pub fn badly_written(refused: &Refused) -> Fault {
 /// In what a number without a point is given.
 fn hint_of_point(kind: NumberKind) -> Option<&'static str> {
     match kind {
-        NumberKind::Year => None,
+        NumberKind::Year | NumberKind::RegisterYear | NumberKind::Month => None,
         NumberKind::Rate => Some(RATES_ARE_IN),
         NumberKind::Opening | NumberKind::Amount | NumberKind::PaidInYear => {
             Some("money is in whole thousands of dollars")
@@ -52,6 +54,12 @@ fn hint_of_point(kind: NumberKind) -> Option<&'static str> {
 }
 
 const RATES_ARE_IN: &str = "rates are in hundredths of a percent: 148 is 1.48 percent";
+
+const MONTHS_ARE: &str = "a month is its number, 1 for January to 12 for December";
+
+fn is_month_in_letters((number, field): &Number) -> bool {
+    number.kind == NumberKind::Month && field.iter().any(u8::is_ascii_alphabetic)
+}
 
 /// Bytes that people write in numbers.
 const USUAL_BYTES: [(u8, &str); 11] = [
@@ -138,23 +146,40 @@ fn is_past(field: &[u8], kind: NumberKind) -> bool {
 fn limits(kind: NumberKind) -> [String; 2] {
     let limits = [kind.lowest(), kind.highest()];
     match kind {
-        NumberKind::Year => limits.map(|limit| limit.to_string()),
+        _ if is_year(kind) => limits.map(|limit| limit.to_string()),
         _ => limits.map(thousands),
     }
 }
 
+fn is_year(kind: NumberKind) -> bool {
+    matches!(kind, NumberKind::Year | NumberKind::RegisterYear)
+}
+
 /// A number with separators; one of very many digits is shortened.
 fn shown_number(field: &[u8], kind: NumberKind) -> String {
-    if kind == NumberKind::Year || field.len() > 30 {
+    if is_year(kind) || field.len() > 30 {
         return quoted(field);
     }
     thousands(value(field))
 }
 
+/// A year and its month in one number, such as 198203.
+const YEAR_AND_MONTH: std::ops::RangeInclusive<i128> = 198_001..=209_912;
+
+/// Is it large enough for a year?
+fn is_past_years(number: i128) -> bool {
+    number >= NumberKind::RegisterYear.lowest()
+}
+
 fn hint_of_limit(number: i128, kind: NumberKind) -> &'static str {
     match kind {
-        NumberKind::Year if number < 100 => "a year is written with four digits",
-        NumberKind::Year => "",
+        _ if is_year(kind) && number < 100 => "a year is written with four digits",
+        NumberKind::RegisterYear if (YEAR_AND_MONTH).contains(&number) => {
+            "the year and its month are two fields"
+        }
+        NumberKind::Year | NumberKind::RegisterYear => "",
+        NumberKind::Month if is_past_years(number) => "the year stands before the month",
+        NumberKind::Month => MONTHS_ARE,
         NumberKind::Rate => RATES_ARE_IN,
         NumberKind::Opening | NumberKind::Amount | NumberKind::PaidInYear => {
             "money is in thousands of dollars: perhaps these are dollars"

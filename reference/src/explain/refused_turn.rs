@@ -3,6 +3,7 @@
 use super::earlier_records::Subject;
 use super::line_names::described;
 use super::refusal::{Fault, Refused};
+use super::shown::percent;
 use crate::book::DeclaredLine;
 use crate::kinds::{Letter, LAST_YEAR};
 use crate::record::{read, Request};
@@ -22,9 +23,28 @@ pub fn given_before(refused: &Refused) -> Fault {
     let Some((subject, line_number)) = given else {
         return Fault::default();
     };
+    if let Ok(Request::MonthlyRate { month, rate }) = read(refused.line) {
+        let given = refused.book.register.rate(month).unwrap_or_default();
+        return month_given_before(subject, line_number, [given, rate]);
+    }
     let name = subject.described();
     let place = format!("{name} was given in line {line_number} and stays as it is there");
     Fault::at(place, Vec::new())
+}
+
+/// A month is given "once": the rate that was given and the one of this line.
+fn month_given_before(subject: Subject, line_number: usize, rates: [u64; 2]) -> Fault {
+    let [given, rate] = rates.map(percent);
+    let place = format!(
+        "{} was given in line {line_number}, at {given}, and stays as it is there",
+        subject.described()
+    );
+    let hint = if given == rate {
+        "this line gives the same rate: delete it".to_string()
+    } else {
+        format!("this line gives {rate}: if that is right, mend line {line_number}")
+    };
+    Fault::at(place, vec![hint])
 }
 
 /// Question 8.

@@ -5,10 +5,12 @@ mod bytes;
 mod halves;
 mod lines;
 mod longest;
+mod months;
 mod numbers;
 mod patterns;
 mod questions;
 mod rates;
+mod register;
 mod tails;
 mod totals;
 mod years;
@@ -35,6 +37,8 @@ pub fn edges() -> Vec<Edge> {
     edges.extend(tails::edges());
     edges.extend(totals::edges());
     edges.extend(longest::edges());
+    edges.extend(months::edges());
+    edges.extend(register::edges());
     edges
 }
 

@@ -6,7 +6,7 @@ use crate::text::{parts, Line};
 use crate::tree;
 
 /// The words that an answer begins with.
-const ANSWERS: [&str; 6] = ["LINE", "RATE", "FACT", "TAX", "SUM", "NO"];
+const ANSWERS: [&str; 7] = ["LINE", "RATE", "FACT", "TAX", "SUM", "MIDT", "NO"];
 
 /// A line's number, and what stands in the bracket after it.
 type Cited<'a> = (usize, &'a str);
@@ -76,7 +76,7 @@ fn fits(run: &str, (number, note): Cited, output: &str) -> bool {
         .filter(|word| !word.is_empty())
         .collect();
     match words[..] {
-        [word] if ["LINE", "RATE", "PATT", "YEAR", "SUM"].contains(&word) => {
+        [word] if ["LINE", "RATE", "PATT", "YEAR", "SUM", "MIDT"].contains(&word) => {
             stored(run, "stdin", number).is_some_and(|record| record.starts_with(word))
         }
         [word, _, ..] if ANSWERS.contains(&word) => {

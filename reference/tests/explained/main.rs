@@ -1,6 +1,6 @@
 //! What `explain` says of whole runs (`runs`), of accepted records (`figures`),
-//! of refused ones (`refused_form`, `refused_book`) and of SUM (`sums`), and its
-//! `page` and `program`.
+//! of refused ones (`refused_form`, `refused_book`), of SUM (`sums`) and of MIDT
+//! and the short RATE (`register`), and its `page` and `program`.
 
 #[path = "../common/mod.rs"]
 mod common;
@@ -9,6 +9,7 @@ mod page;
 mod program;
 mod refused_book;
 mod refused_form;
+mod register;
 mod runs;
 mod sums;
 

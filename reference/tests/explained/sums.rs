@@ -131,8 +131,8 @@ fn question_1_counts_a_sum_among_the_records_of_a_line() {
 }
 
 #[test]
-fn question_2_has_five_words_and_knows_a_sum_that_is_nearly_right() {
-    let words = "Is the first field one of LINE, RATE, PATT, YEAR, SUM? No:";
+fn question_2_has_six_words_and_knows_a_sum_that_is_nearly_right() {
+    let words = "Is the first field one of LINE, RATE, PATT, YEAR, SUM, MIDT? No:";
     let cases: [(&[u8], &str, &str); 6] = [
         (b"sum\tJ", "'sum'", "small letters: write SUM"),
         (b"SUM J", "'SUM J'", "blanks stand where tabs"),

@@ -29,6 +29,14 @@ pub fn rate(output: &mut Vec<u8>, year: u64, rate: u64) {
     output.push(b'\n');
 }
 
+pub fn monthly_rate(output: &mut Vec<u8>, fields: [u64; 3]) {
+    output.extend_from_slice(b"MIDT");
+    for field in fields {
+        put_number(output, field);
+    }
+    output.push(b'\n');
+}
+
 /// The factors of the ages, the composite last.
 pub fn factors(output: &mut Vec<u8>, letter: Letter, year: u64, published: &[u32]) {
     output.extend_from_slice(&[b'F', b'A', b'C', b'T', b'\t', letter.byte()]);

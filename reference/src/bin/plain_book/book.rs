@@ -1,9 +1,10 @@
-//! The book's state, and questions 7 to 13.
+//! The book's state, and questions 7 to 14.
 
 use crate::answer::{self, Tax, Totals};
 use crate::factor::{publish, Cumulative, Discount};
 use crate::letter::Letter;
-use crate::reader::{Reader, Word, AMOUNT, OPENING, RATE, YEAR};
+use crate::reader::{Reader, Word, AMOUNT, MONTH, OPENING, RATE, REGISTER_YEAR, YEAR};
+use crate::register::Register;
 use crate::year_end::Row;
 
 /// One pattern's published factors, by age, and its composite after them.
@@ -39,6 +40,7 @@ const UNDECLARED: Line = Line {
 pub struct Book {
     lines: [Line; 15],
     discounts: [Option<Discount>; 113],
+    register: Register,
     pub accepted: u64,
     pub refused: u64,
 }
@@ -48,6 +50,7 @@ impl Book {
         Book {
             lines: [UNDECLARED; 15],
             discounts: [None; 113],
+            register: Register::empty(),
             accepted: 0,
             refused: 0,
         }
@@ -62,6 +65,7 @@ impl Book {
             Word::Pattern => self.give_pattern(reader, output),
             Word::Year => self.close_year(reader, output),
             Word::Sum => self.sum(reader, output),
+            Word::MonthlyRate => self.give_monthly_rate(reader, output),
         }
     }
 
@@ -81,18 +85,33 @@ impl Book {
 
     fn give_rate(&mut self, reader: &mut Reader, output: &mut Vec<u8>) -> Result<(), u8> {
         let year = reader.number(&YEAR)?;
-        let mut sum = 0_u64;
-        for _month in 0..60 {
-            sum = sum.wrapping_add(reader.number(&RATE)?);
-        }
+        let sum = if reader.has_field() {
+            Some(sum_of_sixty(reader)?)
+        } else {
+            None
+        };
         reader.end_record()?;
         let discount = &mut self.discounts[(year - YEAR.lowest) as usize];
         if discount.is_some() {
             return Err(7);
         }
+        let sum = match sum {
+            Some(sum) => sum,
+            None => self.register.sum_before(year)?,
+        };
         let rate = (sum + 30) / 60;
         *discount = Some(Discount::of_rate(rate));
         answer::rate(output, year, rate);
+        Ok(())
+    }
+
+    fn give_monthly_rate(&mut self, reader: &mut Reader, output: &mut Vec<u8>) -> Result<(), u8> {
+        let year = reader.number(&REGISTER_YEAR)?;
+        let month = reader.number(&MONTH)?;
+        let rate = reader.number(&RATE)?;
+        reader.end_record()?;
+        self.register.store(year, month, rate)?;
+        answer::monthly_rate(output, [year, month, rate]);
         Ok(())
     }
 
@@ -186,6 +205,14 @@ impl Line {
             loss,
         })
     }
+}
+
+fn sum_of_sixty(reader: &mut Reader) -> Result<u64, u8> {
+    let mut sum = 0_u64;
+    for _month in 0..60 {
+        sum = sum.wrapping_add(reader.number(&RATE)?);
+    }
+    Ok(sum)
 }
 
 fn read_cumulative(

@@ -10,6 +10,7 @@ mod book;
 mod factor;
 mod letter;
 mod reader;
+mod register;
 mod year_end;
 
 use std::fs::File;

@@ -19,6 +19,8 @@ pub struct Limits {
 }
 
 pub const YEAR: Limits = limits(1_987, 2_099);
+pub const REGISTER_YEAR: Limits = limits(1_980, 2_099);
+pub const MONTH: Limits = limits(1, 12);
 pub const RATE: Limits = limits(0, 2_500);
 pub const OPENING: Limits = limits(0, 100_000_000_000);
 pub const AMOUNT: Limits = limits(0, 10_000_000_000);
@@ -27,13 +29,14 @@ const fn limits(lowest: u64, highest: u64) -> Limits {
     Limits { lowest, highest }
 }
 
-/// The five kinds of record.
+/// The six kinds of record.
 pub enum Word {
     Line,
     Rate,
     Pattern,
     Year,
     Sum,
+    MonthlyRate,
 }
 
 /// What is left of the input. An error is the number of the question that was
@@ -90,6 +93,7 @@ impl<'a> Reader<'a> {
             [b'R', b'A', b'T', b'E', after @ ..] => (Word::Rate, after),
             [b'P', b'A', b'T', b'T', after @ ..] => (Word::Pattern, after),
             [b'Y', b'E', b'A', b'R', after @ ..] => (Word::Year, after),
+            [b'M', b'I', b'D', b'T', after @ ..] => (Word::MonthlyRate, after),
             [b'S', b'U', b'M', after @ ..] => (Word::Sum, after),
             _ => return Err(2),
         };
@@ -139,9 +143,14 @@ impl<'a> Reader<'a> {
         Ok((size as i64).wrapping_neg())
     }
 
+    /// Whether another field follows in this line.
+    pub fn has_field(&self) -> bool {
+        self.rest.first() == Some(&TAB)
+    }
+
     /// The end of the record: questions 4, 5 and 6, in this order.
     pub fn end_record(&self) -> Result<(), u8> {
-        if self.rest.first() == Some(&TAB) {
+        if self.has_field() {
             Err(4)
         } else if self.badly_written {
             Err(5)

@@ -16,7 +16,7 @@ pub fn edges() -> Vec<Edge> {
 
 /// A tab at the end, a leading zero in the last number and a digit more there,
 /// each with its answer, and then the record itself.
-fn after_one_byte_more(record: &str, refused: [&str; 3], answer: &str) -> Vec<Edge> {
+pub fn after_one_byte_more(record: &str, refused: [&str; 3], answer: &str) -> Vec<Edge> {
     let (start, last) = record.rsplit_once(' ').expect("a number");
     vec![
         edge(&format!("{record} "), refused[0]),

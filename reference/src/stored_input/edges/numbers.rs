@@ -26,22 +26,24 @@ const TOO_LARGE: [&str; 9] = [
 ];
 
 pub fn edges() -> Vec<Edge> {
-    let mut edges = Vec::new();
-    for (record, place, minus_allowed) in places() {
-        for number in BADLY_WRITTEN {
-            edges.push(edge(&with(&record, place, number), "NO 5"));
-        }
-        for number in TOO_LARGE {
-            edges.push(edge(&with(&record, place, number), "NO 6"));
-        }
-        let digits = room(&record, place);
-        for number in ["9".repeat(digits), format!("1{}", "0".repeat(digits - 1))] {
-            edges.push(edge(&with(&record, place, &number), "NO 6"));
-            let leading_zero = with(&record, place, &format!("0{}", &number[1..]));
-            edges.push(edge(&leading_zero, "NO 5"));
-        }
-        edges.extend(with_minus(&record, place, minus_allowed));
+    let places = places().into_iter();
+    let edges = places.flat_map(|(record, place, minus)| edges_at(&record, place, minus));
+    edges.collect()
+}
+
+/// Numbers at a place of a record, and whether a minus sign may stand there.
+pub fn edges_at(record: &str, place: usize, minus_allowed: bool) -> Vec<Edge> {
+    let edge_with = |number: &str, answer: &str| edge(&with(record, place, number), answer);
+    let badly_written = BADLY_WRITTEN.map(|number| edge_with(number, "NO 5"));
+    let too_large = TOO_LARGE.map(|number| edge_with(number, "NO 6"));
+    let mut edges: Vec<Edge> = badly_written.into_iter().chain(too_large).collect();
+    let digits = room(record, place);
+    for number in ["9".repeat(digits), format!("1{}", "0".repeat(digits - 1))] {
+        let leading_zero = format!("0{}", &number[1..]);
+        edges.push(edge_with(&number, "NO 6"));
+        edges.push(edge_with(&leading_zero, "NO 5"));
     }
+    edges.extend(with_minus(record, place, minus_allowed));
     edges
 }
 

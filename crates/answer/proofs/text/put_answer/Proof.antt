@@ -1,8 +1,7 @@
 -- `answer::text::put_answer` meets its contract. Assumes nothing.
-use native.Mathlib.Omega.{arith}
 use borrow.Author.Needs.{needs}
 use mir.Facts.{toZ-ofZ}
-use Rattle.answer.proofs.Lines.{room, without-room, declared-answered, rated-answered, fact-answered, tax-answered, summed-answered, refusal-answered}
+use Rattle.answer.proofs.Lines.{room, without-room, declared-answered, rated-answered, fact-answered, tax-answered, summed-answered, registered-answered, refusal-answered}
 use Rattle.answer.proofs.text.put_answer.Statement.{statement}
 use Rattle.answer.proofs.text.put_answer.Tie as tie
 
@@ -42,6 +41,12 @@ put-summed-requires c κs = search room
 enum-known-answer-6 : tie.Need-enum-known-answer-6
 enum-known-answer-6 c = search needs
 
+put-registered-requires : tie.Need-put-registered-requires
+put-registered-requires c κs = search room
+
+enum-known-answer-7 : tie.Need-enum-known-answer-7
+enum-known-answer-7 c = search needs
+
 number-requires : tie.Need-number-requires
 number-requires c κs = search needs
 
@@ -49,46 +54,52 @@ put-refusal-requires : tie.Need-put-refusal-requires
 put-refusal-requires c κs = search room
 
 same-length : tie.Need-same-length
-same-length c = omega arith
+same-length c = search needs
 
 returns : tie.Need-returns
 returns c = search declared-answered
 
 same-length-2 : tie.Need-same-length-2
-same-length-2 c = omega arith
+same-length-2 c = search needs
 
 returns-2 : tie.Need-returns-2
 returns-2 c = search rated-answered
 
 same-length-3 : tie.Need-same-length-3
-same-length-3 c = omega arith
+same-length-3 c = search needs
 
 returns-3 : tie.Need-returns-3
 returns-3 c = search fact-answered
 
 same-length-4 : tie.Need-same-length-4
-same-length-4 c = omega arith
+same-length-4 c = search needs
 
 returns-4 : tie.Need-returns-4
 returns-4 c = search (tax-answered, toZ-ofZ)
 
 same-length-5 : tie.Need-same-length-5
-same-length-5 c = omega arith
+same-length-5 c = search needs
 
 returns-5 : tie.Need-returns-5
 returns-5 c = search (summed-answered, toZ-ofZ)
 
 same-length-6 : tie.Need-same-length-6
-same-length-6 c = omega arith
+same-length-6 c = search needs
 
 returns-6 : tie.Need-returns-6
-returns-6 c = search refusal-answered
+returns-6 c = search registered-answered
 
 same-length-7 : tie.Need-same-length-7
-same-length-7 c = omega arith
+same-length-7 c = search needs
 
 returns-7 : tie.Need-returns-7
-returns-7 c = search without-room
+returns-7 c = search refusal-answered
+
+same-length-8 : tie.Need-same-length-8
+same-length-8 c = search needs
+
+returns-8 : tie.Need-returns-8
+returns-8 c = search without-room
 
 pub put-answer-spec : {M : Type 1} → statement M
 put-answer-spec =
@@ -106,6 +117,8 @@ put-answer-spec =
     enum-known-answer-5
     put-summed-requires
     enum-known-answer-6
+    put-registered-requires
+    enum-known-answer-7
     number-requires
     put-refusal-requires
     same-length
@@ -121,4 +134,6 @@ put-answer-spec =
     same-length-6
     returns-6
     same-length-7
-    returns-7)
+    returns-7
+    same-length-8
+    returns-8)

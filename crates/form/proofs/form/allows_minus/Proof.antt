@@ -22,6 +22,12 @@ enum-told-5 c = search needs
 enum-told-6 : tie.Need-enum-told-6
 enum-told-6 c = search needs
 
+enum-told-7 : tie.Need-enum-told-7
+enum-told-7 c = search needs
+
+enum-told-8 : tie.Need-enum-told-8
+enum-told-8 c = search needs
+
 returns : tie.Need-returns
 returns c = search needs
 
@@ -32,13 +38,19 @@ returns-3 : tie.Need-returns-3
 returns-3 c = search needs
 
 returns-4 : tie.Need-returns-4
-returns-4 c = search minus-year
+returns-4 c = search needs
 
 returns-5 : tie.Need-returns-5
-returns-5 c = search needs
+returns-5 c = search minus-year
 
 returns-6 : tie.Need-returns-6
 returns-6 c = search needs
+
+returns-7 : tie.Need-returns-7
+returns-7 c = search needs
+
+returns-8 : tie.Need-returns-8
+returns-8 c = search needs
 
 pub allows-minus-spec : {M : Type 1} → statement M
 allows-minus-spec =
@@ -50,9 +62,13 @@ allows-minus-spec =
     enum-told-4
     enum-told-5
     enum-told-6
+    enum-told-7
+    enum-told-8
     returns
     returns-2
     returns-3
     returns-4
     returns-5
-    returns-6)
+    returns-6
+    returns-7
+    returns-8)

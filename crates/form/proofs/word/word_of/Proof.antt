@@ -1,6 +1,6 @@
 -- `form::word::word_of` meets its contract. Assumes nothing.
 use borrow.Author.Needs.{needs}
-use Rattle.form.proofs.Words.{is-line, is-rate, is-patt, is-year, is-sum, is-other}
+use Rattle.form.proofs.Words.{is-line, is-rate, is-patt, is-year, is-sum, is-midt, is-other}
 use Rattle.form.proofs.word.word_of.Statement.{statement}
 use Rattle.form.proofs.word.word_of.Tie as tie
 
@@ -49,8 +49,17 @@ is-same-requires-5 c κs = search needs
 returns-5 : tie.Need-returns-5
 returns-5 c = search is-sum
 
+slice-aggregate-is-same-6 : tie.Need-slice-aggregate-is-same-6
+slice-aggregate-is-same-6 c = search needs
+
+is-same-requires-6 : tie.Need-is-same-requires-6
+is-same-requires-6 c κs = search needs
+
 returns-6 : tie.Need-returns-6
-returns-6 c = search is-other
+returns-6 c = search is-midt
+
+returns-7 : tie.Need-returns-7
+returns-7 c = search is-other
 
 pub word-of-spec : {M : Type 1} → statement M
 word-of-spec =
@@ -71,4 +80,7 @@ word-of-spec =
     slice-aggregate-is-same-5
     is-same-requires-5
     returns-5
-    returns-6)
+    slice-aggregate-is-same-6
+    is-same-requires-6
+    returns-6
+    returns-7)

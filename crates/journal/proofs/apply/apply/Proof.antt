@@ -1,6 +1,6 @@
 -- `journal::apply::apply` meets its contract. Assumes nothing.
 use borrow.Author.Needs.{needs}
-use Rattle.journal.proofs.LineRead.{months-in, closes-low, refuses, sums, declares, sets-rate, adds-pattern, closes-year}
+use Rattle.journal.proofs.LineRead.{months-in, closes-low, refuses, sums, declares, sets-rate, registers-month, sets-rate-alone, adds-pattern, closes-year}
 use Rattle.journal.proofs.apply.apply.Statement.{statement}
 use Rattle.journal.proofs.apply.apply.Tie as tie
 
@@ -58,6 +58,30 @@ enum-told-5 c = search needs
 totals-requires : tie.Need-totals-requires
 totals-requires c κs = search needs
 
+enum-told-6 : tie.Need-enum-told-6
+enum-told-6 c = search needs
+
+array-read-register-month : tie.Need-array-read-register-month
+array-read-register-month c = search needs
+
+array-read-register-month-2 : tie.Need-array-read-register-month-2
+array-read-register-month-2 c = search needs
+
+array-read-register-month-3 : tie.Need-array-read-register-month-3
+array-read-register-month-3 c = search needs
+
+register-month-requires : tie.Need-register-month-requires
+register-month-requires c κs = search needs
+
+enum-told-7 : tie.Need-enum-told-7
+enum-told-7 c = search needs
+
+array-read-set-rate-from-register : tie.Need-array-read-set-rate-from-register
+array-read-set-rate-from-register c = search needs
+
+set-rate-from-register-requires : tie.Need-set-rate-from-register-requires
+set-rate-from-register-requires c κs = search needs
+
 returns : tie.Need-returns
 returns c = search refuses
 
@@ -75,6 +99,12 @@ returns-5 c = search closes-year
 
 returns-6 : tie.Need-returns-6
 returns-6 c = search sums
+
+returns-7 : tie.Need-returns-7
+returns-7 c = search registers-month
+
+returns-8 : tie.Need-returns-8
+returns-8 c = search sets-rate-alone
 
 pub apply-spec : {M : Type 1} → statement M
 apply-spec =
@@ -98,9 +128,19 @@ apply-spec =
     apply-year-requires
     enum-told-5
     totals-requires
+    enum-told-6
+    array-read-register-month
+    array-read-register-month-2
+    array-read-register-month-3
+    register-month-requires
+    enum-told-7
+    array-read-set-rate-from-register
+    set-rate-from-register-requires
     returns
     returns-2
     returns-3
     returns-4
     returns-5
-    returns-6)
+    returns-6
+    returns-7
+    returns-8)

@@ -1,6 +1,6 @@
 -- `ledger::set_rate::ask_given` meets its contract. Assumes nothing.
-use Rattle.ledger.proofs.RateSet.{rate-given, rate-set}
 use borrow.Author.Needs.{needs}
+use Rattle.ledger.proofs.RateSet.{rate-given, rate-set}
 use Rattle.ledger.proofs.set_rate.ask_given.Statement.{statement}
 use Rattle.ledger.proofs.set_rate.ask_given.Tie as tie
 
@@ -16,20 +16,8 @@ refuse-requires c κs = search needs
 enum-told-2 : tie.Need-enum-told-2
 enum-told-2 c = search needs
 
-half-year-requires : tie.Need-half-year-requires
-half-year-requires c κs = search needs
-
-keep-hint-requires : tie.Need-keep-hint-requires
-keep-hint-requires c κs = search needs
-
-with-rate-requires : tie.Need-with-rate-requires
-with-rate-requires c κs = search needs
-
-number-requires : tie.Need-number-requires
-number-requires c κs = search needs
-
-accept-requires : tie.Need-accept-requires
-accept-requires c κs = search needs
+give-rate-requires : tie.Need-give-rate-requires
+give-rate-requires c κs = search needs
 
 returns : tie.Need-returns
 returns c = search rate-given
@@ -45,10 +33,6 @@ ask-given-spec =
     enum-told
     refuse-requires
     enum-told-2
-    half-year-requires
-    keep-hint-requires
-    with-rate-requires
-    number-requires
-    accept-requires
+    give-rate-requires
     returns
     returns-2)

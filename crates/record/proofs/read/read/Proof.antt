@@ -10,6 +10,9 @@ first-requires c κs = search needs
 word-of-requires : tie.Need-word-of-requires
 word-of-requires c κs = search needs
 
+form-of-requires : tie.Need-form-of-requires
+form-of-requires c κs = search needs
+
 ask-word-requires : tie.Need-ask-word-requires
 ask-word-requires c κs = search needs
 
@@ -25,4 +28,11 @@ returns-2 c = search read-not
 pub read-spec : {M : Type 1} → statement M
 read-spec =
     tie.close
-    (tie.spec first-requires word-of-requires ask-word-requires returns refused-requires returns-2)
+    (tie.spec
+    first-requires
+    word-of-requires
+    form-of-requires
+    ask-word-requires
+    returns
+    refused-requires
+    returns-2)

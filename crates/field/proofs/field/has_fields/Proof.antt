@@ -1,0 +1,53 @@
+-- `field::field::has_fields` meets its contract. Assumes nothing.
+use mathlib.Core.Logic.{⊎-elim}
+use Prim.Native.Nat.{_-_}
+use native.Mathlib.Omega.{arith}
+use lib.ListN.{length}
+use Rattle.field.proofs.Fields.{Counting, count-start, count-tab, count-other, one-too-many, as-many}
+use Rattle.field.proofs.field.has_fields.Statement.{statement}
+use Rattle.field.proofs.field.has_fields.Tie as tie
+
+abbrev Inv-loop : tie.InvT-loop
+Inv-loop line expected n₀ i₀ n i = Counting line n i
+
+abbrev μ-loop : tie.MeasureT-loop
+μ-loop line expected n₀ i₀ n i = length line - i
+
+loop-holds : tie.Need-loop-holds Inv-loop μ-loop
+loop-holds c = count-start _
+
+shared-slice-read-if1 : tie.Need-shared-slice-read-if1 Inv-loop μ-loop
+shared-slice-read-if1 c = omega arith
+
+returns : tie.Need-returns Inv-loop μ-loop
+returns c = search one-too-many
+
+add-n : tie.Need-add-n Inv-loop μ-loop
+add-n c = omega arith
+
+add-i : tie.Need-add-i Inv-loop μ-loop
+add-i c = omega arith
+
+loop-less : tie.Need-loop-less Inv-loop μ-loop
+loop-less c = omega arith
+
+loop-again : tie.Need-loop-again Inv-loop μ-loop
+loop-again c = ⊎-elim (λ w. search count-tab) (λ w. search count-other) (c .if1 .came)
+
+returns-2 : tie.Need-returns-2 Inv-loop μ-loop
+returns-2 c = search as-many
+
+pub has-fields-spec : {M : Type 1} → statement M
+has-fields-spec =
+    tie.close
+    (tie.spec
+    Inv-loop
+    μ-loop
+    loop-holds
+    shared-slice-read-if1
+    returns
+    add-n
+    add-i
+    loop-less
+    loop-again
+    returns-2)

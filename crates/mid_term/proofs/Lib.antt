@@ -1,0 +1,2 @@
+pub mod FromRegister
+pub mod Registered

@@ -1,0 +1,2 @@
+pub mod MonthRead
+pub mod Sixties
