@@ -38,18 +38,18 @@ pub fn count(line: &[u8]) -> usize
 pub fn has_fields(line: &[u8], expected: usize) -> bool
     ensures { λ r. ⌜ r ≡ eqb (length (fields (now (line .entry)))) expected ⌝ }
 {
-    let mut n: usize = 1;
-    let mut i = 0;
-    while i < line.len() {
-        if line[i] == b'\t' {
-            if n == expected {
+    let mut found: usize = 1;
+    let mut at = 0;
+    while at < line.len() {
+        if line[at] == b'\t' {
+            if found == expected {
                 return false;
             }
-            n += 1;
+            found += 1;
         }
-        i += 1;
+        at += 1;
     }
-    n == expected
+    found == expected
 }
 
 // Where the field at place `place` begins; past the line's end where there is none.

@@ -8,10 +8,10 @@ use Rattle.field.proofs.field.has_fields.Statement.{statement}
 use Rattle.field.proofs.field.has_fields.Tie as tie
 
 abbrev Inv-loop : tie.InvT-loop
-Inv-loop line expected n₀ i₀ n i = Counting line n i
+Inv-loop line expected found₀ at₀ found at = Counting line found at
 
 abbrev μ-loop : tie.MeasureT-loop
-μ-loop line expected n₀ i₀ n i = length line - i
+μ-loop line expected found₀ at₀ found at = length line - at
 
 loop-holds : tie.Need-loop-holds Inv-loop μ-loop
 loop-holds c = count-start _
@@ -22,11 +22,11 @@ shared-slice-read-if1 c = omega arith
 returns : tie.Need-returns Inv-loop μ-loop
 returns c = search one-too-many
 
-add-n : tie.Need-add-n Inv-loop μ-loop
-add-n c = omega arith
+add-found : tie.Need-add-found Inv-loop μ-loop
+add-found c = omega arith
 
-add-i : tie.Need-add-i Inv-loop μ-loop
-add-i c = omega arith
+add-at : tie.Need-add-at Inv-loop μ-loop
+add-at c = omega arith
 
 loop-less : tie.Need-loop-less Inv-loop μ-loop
 loop-less c = omega arith
@@ -46,8 +46,8 @@ has-fields-spec =
     loop-holds
     shared-slice-read-if1
     returns
-    add-n
-    add-i
+    add-found
+    add-at
     loop-less
     loop-again
     returns-2)
