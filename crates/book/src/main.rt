@@ -1,4 +1,6 @@
 // The discounting book: records from standard input, answers to standard output.
+#![tactic(auto)]
+
 fn main() {
     console::run()
 }

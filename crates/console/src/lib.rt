@@ -1,4 +1,6 @@
 // From standard input to standard output.
+#![tactic(auto)]
+
 mod standard;
 mod write;
 

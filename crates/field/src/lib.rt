@@ -1,2 +1,4 @@
 // The fields of a line of bytes.
+#![tactic(auto)]
+
 pub mod field;

@@ -1,4 +1,6 @@
 // The half-year factor of a rate.
+#![tactic(auto)]
+
 mod square_rule;
 mod table;
 

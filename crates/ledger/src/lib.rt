@@ -1,4 +1,6 @@
 // What every call answers and counts, and the calls of LINE and RATE with numbers; `refuse` is a record that no call is made of.
+#![tactic(auto)]
+
 pub mod accept;
 pub mod answer;
 pub mod declare;

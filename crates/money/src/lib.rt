@@ -1,4 +1,6 @@
 // The kinds of money of document 01, each with its limits.
+#![tactic(auto)]
+
 pub mod amount;
 pub mod closing;
 pub mod opening;

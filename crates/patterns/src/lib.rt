@@ -1,2 +1,4 @@
 // PATT with numbers: a pattern added to a line.
+#![tactic(auto)]
+
 pub mod add_pattern;

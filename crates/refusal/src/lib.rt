@@ -1,4 +1,6 @@
 // Why a record is refused: what is wrong, with the number of the question that is answered no.
+#![tactic(auto)]
+
 ghost use Rattle.std.specs.Prelude.{◌≡◌};
 ghost use Rattle.refusal.specs.Number.{number_of};
 

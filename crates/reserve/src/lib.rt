@@ -1,4 +1,6 @@
 // Document 01, "Row and year end": a row's discounted value, and a year end's paid, closing and loss.
+#![tactic(auto)]
+
 mod closing;
 mod loss;
 mod paid_total;

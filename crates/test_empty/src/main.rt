@@ -1,4 +1,6 @@
 // The book program on an empty input.
+#![tactic(auto)]
+
 fn main() {
     console::run()
 }

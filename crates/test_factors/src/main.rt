@@ -1,4 +1,6 @@
 // Kept factors and composites with all ten decimals, for the exhibits of source 000, for extremes and for random patterns: FACT shows six decimals only.
+#![tactic(auto)]
+
 mod cases;
 mod print;
 mod random;

@@ -1,4 +1,6 @@
 // The book program on 6,000 random records, every answer and every refusal among them.
+#![tactic(auto)]
+
 fn main() {
     console::run()
 }

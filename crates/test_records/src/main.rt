@@ -1,4 +1,6 @@
 // Reads the lines of standard input and prints what each one asks, or the question that is answered no.
+#![tactic(auto)]
+
 mod lines;
 mod print;
 

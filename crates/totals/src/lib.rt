@@ -1,4 +1,6 @@
 // The call SUM: a line's figures since its first closing.
+#![tactic(auto)]
+
 ghost use Rattle.model.specs.Call.{totals};
 ghost use Rattle.model.specs.Question.{Sound};
 ghost use Rattle.model.specs.Step.{as_numbers};
