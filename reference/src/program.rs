@@ -7,9 +7,9 @@ use std::path::{Path, PathBuf};
 use std::process::{Command, Stdio};
 use std::time::{Duration, Instant};
 
-/// Where the proved program stands.
+/// Where the proved program stands, once `rt run` or the gate has built it.
 pub fn proved_book() -> PathBuf {
-    Path::new(env!("CARGO_MANIFEST_DIR")).join("../target/bin/book")
+    Path::new(env!("CARGO_MANIFEST_DIR")).join("../crates/book/out/book")
 }
 
 /// A program's output for an input that is written to it piece by piece.

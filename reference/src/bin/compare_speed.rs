@@ -1,7 +1,7 @@
 //! The speed of the proved program beside that of `plain_book`, on the same
-//! input files. The argument is the path of the proved program, `target/bin/book`
-//! if there is none. It takes `plain_book` from its own directory, so build all
-//! programs first: `cargo build --release`.
+//! input files. The argument is the path of the proved program,
+//! `crates/book/out/book` if there is none. It takes `plain_book` from its own
+//! directory, so build all programs first: `cargo build --release`.
 
 use std::io::{Error, Result};
 use std::path::{Path, PathBuf};

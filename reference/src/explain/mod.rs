@@ -43,8 +43,8 @@ use crate::book::Book;
 use crate::record::read;
 use crate::run::records;
 
-const NOTICE: &str = "An explanation, not proved: the answers of the proved book \
-    (target/bin/book) are those that count.";
+const NOTICE: &str = "An explanation, not proved: what counts are the answers of the proved \
+    book (crates/book/out/book).";
 
 const READING: &str = "Money is in whole thousands of dollars. A factor is what 1 of unpaid \
     losses is worth at the year end. Lines are counted from 1 in the file of records, and a \

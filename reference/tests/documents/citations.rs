@@ -82,7 +82,7 @@ fn names_to<'a>(parts: &[Part<'a>], i: usize) -> Vec<&'a str> {
 /// Some names, and the files of which one declares each.
 type Cited<'a> = (Vec<&'a str>, Vec<PathBuf>);
 
-/// model/Steps: `long-line`, with its backticks there or around it all.
+/// model/Steps: `long_line`, with its backticks there or around it all.
 fn with_theorems<'a>(parts: &[Part<'a>]) -> Vec<Cited<'a>> {
     let mut cited = Vec::new();
     for (i, part) in parts.iter().enumerate() {

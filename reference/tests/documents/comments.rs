@@ -6,12 +6,13 @@ use crate::tree;
 
 const LONGEST: usize = 200;
 
-/// The sources below a folder.
+/// The sources below a folder, but for the copies that `rt` keeps.
 fn sources(folder: &Path) -> Vec<PathBuf> {
     let Ok(entries) = std::fs::read_dir(folder) else {
         return Vec::new();
     };
     let paths = entries.map(|entry| entry.expect("an entry").path());
+    let paths = paths.filter(|path| !tree::is_built(&tree::shown(path)));
     let is_source = |path: &PathBuf| path.extension().is_some_and(|e| e == "rt" || e == "antt");
     let (folders, files): (Vec<PathBuf>, Vec<PathBuf>) = paths.partition(|path| path.is_dir());
     let inner = folders.iter().flat_map(|folder| sources(folder));

@@ -6,11 +6,25 @@ use crate::tree;
 /// A function as it is called, and whether it has a `requires`.
 type Function = (String, bool);
 
-/// The type of "impl Rate {" or "impl<'a> Reader<'a> {".
+/// What follows the parameters of "impl<'a, R: Into<u8>> Reader<'a, R> {".
+fn past_parameters(text: &str) -> &str {
+    let mut depth = 0;
+    let end = text.find(|c| {
+        depth += i32::from(c == '<') - i32::from(c == '>');
+        depth == 0
+    });
+    match end {
+        Some(end) if text.starts_with('<') => &text[end + 1..],
+        _ => text,
+    }
+}
+
+/// The type of "impl Rate {", "impl<'a> Reader<'a> {" or "impl Model for Rate {".
 fn owner_of(line: &str) -> Option<String> {
-    let mut words = line.strip_prefix("impl")?.split([' ', '{']);
-    let name = words.find(|word| !word.is_empty() && !word.starts_with('<'))?;
-    Some(format!("{}::", name.split('<').next()?))
+    let head = past_parameters(line.strip_prefix("impl")?);
+    let named = head.split_once(" for ").map_or(head, |(_, named)| named);
+    let name = named.trim_start().split([' ', '{', '<']).next()?;
+    Some(format!("{name}::"))
 }
 
 /// The public functions of a module's text, each after its type.
@@ -111,4 +125,17 @@ pub fn missing(lines: &[Line]) -> Vec<String> {
         missing.extend(unlisted.map(|(name, function)| format!("{name}: {function}")));
     }
     missing
+}
+
+#[test]
+fn an_impl_belongs_to_its_type() {
+    let owned = [
+        ("impl Rate {", "Rate::"),
+        ("impl<'a> Reader<'a> {", "Reader::"),
+        ("impl<R: Into<u8>> Reader<R> {", "Reader::"),
+        ("impl Model for Rate {", "Rate::"),
+    ];
+    for (line, owner) in owned {
+        assert_eq!(owner_of(line).as_deref(), Some(owner), "{line}");
+    }
 }

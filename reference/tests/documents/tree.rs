@@ -18,13 +18,23 @@ pub fn read(path: &Path) -> String {
     String::from_utf8_lossy(&bytes).into_owned()
 }
 
+/// The name of the crate that a line of crates.txt lists: "app status=3: low io".
+fn listed_crate(line: &str) -> Option<&str> {
+    let said = line.split('#').next().unwrap_or(line);
+    said.split([':', ' '])
+        .next()
+        .filter(|name| !name.is_empty())
+}
+
 /// The crates of crates.txt.
 pub fn crates() -> &'static [String] {
     static CRATES: OnceLock<Vec<String>> = OnceLock::new();
     CRATES.get_or_init(|| {
         let list = read(&root().join("crates.txt"));
-        let names = list.lines().filter_map(|line| line.split_once(':'));
-        names.map(|(name, _)| name.to_string()).collect()
+        list.lines()
+            .filter_map(listed_crate)
+            .map(String::from)
+            .collect()
     })
 }
 
@@ -47,6 +57,11 @@ pub fn edit(name: &str, label: &str) -> PathBuf {
     root().join(format!("crates/{name}/must-fail/{label}.edit"))
 }
 
+/// Does it stand in a folder `out`, where `rt` keeps what it builds?
+pub fn is_built(path: &str) -> bool {
+    path.split('/').any(|part| part == "out")
+}
+
 /// Is it a path? What is built is not in the tree, and LABEL is any label.
 pub fn is_path(text: &str) -> bool {
     let endings = [".antt", ".rt", ".rs", ".md", ".txt", ".edit"];
@@ -54,7 +69,7 @@ pub fn is_path(text: &str) -> bool {
     (text.contains('/') || endings.iter().any(|ending| text.ends_with(ending)))
         && text.chars().all(plain)
         && !text.contains("LABEL")
-        && !text.starts_with("target/")
+        && !is_built(text)
 }
 
 /// Is it a folder of a crate, from the root or from crates/?
@@ -88,7 +103,21 @@ pub fn find(path: &str, near: &[String]) -> Vec<PathBuf> {
 
 /// The words before a declared name.
 const KEYWORDS: &str =
-    "pub abbrev unfoldable record data module fn struct enum const type mod impl";
+    "pub abbrev unfoldable record data module fn struct enum const static type trait mod impl";
+
+/// What follows the arguments that a declaration names: "(n : ℕ) {m : ℕ} : T".
+fn past_arguments(text: &str) -> &str {
+    let mut rest = text.trim_start();
+    while rest.starts_with(['(', '{']) {
+        let mut depth = 0;
+        let end = rest.find(|c| {
+            depth += i32::from("({".contains(c)) - i32::from(")}".contains(c));
+            depth == 0
+        });
+        rest = end.map_or("", |end| rest[end + 1..].trim_start());
+    }
+    rest
+}
 
 /// Does a line declare the name, after a keyword, with its type, or as a
 /// variant?
@@ -103,7 +132,7 @@ fn line_declares(line: &str, name: &str) -> bool {
         return false;
     };
     let ends = !after.starts_with(|c: char| c.is_alphanumeric() || "_-'".contains(c));
-    let is_typed = after.trim_start().starts_with(':');
+    let is_typed = past_arguments(after).starts_with(':');
     let is_variant = name.starts_with(char::is_uppercase) && after.starts_with(['(', ',', ' ']);
     ends && (is_typed || is_variant || !["", "pub"].contains(&keyword))
 }
@@ -116,4 +145,37 @@ pub fn declares(path: &Path, name: &str) -> bool {
     let has_parts = |word: &str| word.replace("::", ".").split('.').all(has);
     name.split(' ')
         .any(|word| !word.is_empty() && has_parts(word))
+}
+
+#[test]
+fn a_line_of_crates_txt_lists_the_crate_before_the_colon() {
+    let lines = [
+        "app status=3: low io",
+        "low:",
+        "",
+        "# A crate: a library",
+        "ffi staticlib: low # C",
+    ];
+    let listed: Vec<&str> = lines.into_iter().filter_map(listed_crate).collect();
+    assert_eq!(listed, ["app", "low", "ffi"]);
+}
+
+#[test]
+fn what_is_built_is_no_path_of_the_tree() {
+    assert!(!is_path("crates/book/out/book") && !is_path("crates/book/out"));
+    assert!(is_path("target/bin/book") && is_path("console/src/write.rt"));
+}
+
+#[test]
+fn a_declaration_has_a_keyword_or_a_type() {
+    for line in [
+        "low : ℕ",
+        "  low {n : ℕ} (f : ℕ → (ℕ × ℕ)) : ℕ",
+        "pub data low where",
+    ] {
+        assert!(line_declares(line, "low"), "{line}");
+    }
+    for line in ["low zero = zero", "lower : ℕ", "low (suc n) = n", "low"] {
+        assert!(!line_declares(line, "low"), "{line}");
+    }
 }

@@ -59,7 +59,10 @@ fn the_first_line_says_which_answers_count() {
         let text = text(&report);
         let first = text.lines().next().unwrap_or_default();
         assert!(first.starts_with("An explanation, not proved: "), "{first}");
-        assert!(first.contains("proved book (target/bin/book)"), "{first}");
+        assert!(
+            first.contains("proved book (crates/book/out/book)"),
+            "{first}"
+        );
         let page = page(&report);
         let body = page.split("<body>\n").nth(1).expect("a body");
         assert!(body.starts_with(&format!("<p class=\"notice\">{first}</p>\n")));
