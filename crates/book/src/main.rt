@@ -1,6 +1,6 @@
 // The discounting book: records from standard input, answers to standard output.
 #![tactic(auto)]
 
-fn main() {
-    console::run()
+fn main(rt: HostRuntime) {
+    console::run(rt)
 }

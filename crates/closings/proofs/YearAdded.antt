@@ -9,14 +9,14 @@ use mir.Syntax.{w64}
 use mir.Val.{SFits, to_z, of_z}
 use Rattle.money.proofs.Signed.{sum_size, size_fits, read_back}
 use Rattle.line_limits.specs.declared.totals.Totals.{Totals}
-use Rattle.line_limits.specs.Totals.{most_aYear, total_limit, with_year_of}
+use Rattle.line_limits.specs.Totals.{most_a_year, total_limit, with_year_of}
 use Rattle.line_limits.proofs.TotalLimits.{within_last, limit_small}
 use Rattle.state.specs.Totals.{totals_at, with_totals_of}
 use Rattle.state.proofs.TotalPieces.{totals_within}
 use Rattle.closings.specs.Totals.{OfAYear, Growing}
 
-module _ (before more : ℤ) (within : nat_abs before ≤ total_limit 2099) (year : nat_abs more ≤ most_aYear) where
-  small : nat_abs before ≤ 113 * most_aYear
+module _ (before more : ℤ) (within : nat_abs before ≤ total_limit 2099) (year : nat_abs more ≤ most_a_year) where
+  small : nat_abs before ≤ 113 * most_a_year
   small = omega (arith, within, limit_small 2099)
 
   sum_small : nat_abs (before +ℤ more) < 2 ^ 63

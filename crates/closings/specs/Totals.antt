@@ -2,11 +2,11 @@
 -- Assumes nothing: these are definitions.
 use Rattle.std.specs.Prelude.{◌≤◌, ℤ, nat_abs}
 use Rattle.line_limits.specs.declared.totals.Totals.{Totals}
-use Rattle.line_limits.specs.Totals.{most_aYear, Within}
+use Rattle.line_limits.specs.Totals.{most_a_year, Within}
 
 pub record OfAYear (paid loss : ℤ) : Type 0 where
-  pub paid_limit : nat_abs paid ≤ most_aYear
-  pub loss_limit : nat_abs loss ≤ most_aYear
+  pub paid_limit : nat_abs paid ≤ most_a_year
+  pub loss_limit : nat_abs loss ≤ most_a_year
 
 pub record Growing (before : Totals) (paid loss : ℤ) : Type 0 where
   pub within : Within 2099 before

@@ -1,16 +1,9 @@
 -- A piece, part after part; piece after piece; and the end of input: what is handed to the writes.
 -- Assumes nothing.
-use mathlib.Core.List.{List, [], ◌++◌}
-use mathlib.Core.Path.{◌≡◌, sym, ap, ◌∙◌}
-use mathlib.Core.Bool.{Bool, true, false}
-use Prim.Native.Nat.{ℕ, ◌+◌, ◌-◌, ◌≤◌, ◌<◌}
-use native.Mathlib.Omega.{arith}
-use lib.ListN.{length, take, drop, length-drop}
-use lib.Seq.{take_all, take-add}
+use Rattle.std.proofs.Common.{List, [], ◌++◌, ◌≡◌, sym, ap, ◌∙◌, Bool, true, false, true≢false, ℕ, ◌+◌, ◌-◌, ◌≤◌, ◌<◌, arith, length, take, drop, length-drop, take_all, take-add}
 use Rattle.model.specs.Book.{Book}
 use Rattle.model.specs.Answer.{done_text}
 use Rattle.model.specs.Run as model
-use Rattle.model.proofs.Lists.{true≢false}
 use Rattle.state.specs.declared.book.Book as code
 use Rattle.pieces.specs.declared.answer_line.Answered.{Answered}
 use Rattle.pieces.specs.declared.feed.Run.{Run}
@@ -20,13 +13,13 @@ use Rattle.pieces.specs.Feed.{text_of, Leads, IsStart, Feeds, Closes, PutsDone}
 use Rattle.pieces.proofs.Joining.{front_length}
 use Rattle.pieces.proofs.Ran.{all_written_lem}
 use Rattle.pieces.proofs.Taken.{taken_few, taken_some}
-use Rattle.pieces.proofs.Written.{text_put, put_inside, leads_none, leads_on, feed_leads}
+use Rattle.pieces.proofs.Written.{text_put, put_inside, leads_none, leads_on, texts_join, feed_leads}
 use Rattle.console.specs.declared.standard.Taken.{Taken}
 use Rattle.console.specs.Take.{Takes, TakesPart, TakesPiece, Led}
 use Rattle.console.specs.Write.{Starts, last_answer, last_counts}
 
 -- the text of a way is what its bytes are answered
-leads_text : (run : Run) (store bytes text : List ℕ) (later : Run) (later_store : List ℕ) → Leads run store bytes text later later_store → Leads run store bytes (text_of run store bytes) later later_store
+pub leads_text : (run : Run) (store bytes text : List ℕ) (later : Run) (later_store : List ℕ) → Leads run store bytes text later later_store → Leads run store bytes (text_of run store bytes) later later_store
 leads_text run store bytes text later later_store l = rw (ap (λ (s : Progress). s.written) l.progress) l
 
 -- a part of a piece
@@ -65,9 +58,15 @@ module _ (run : Run) (store piece : List ℕ) (at : ℕ) (last : Run) (lent : Li
         let some : 0 < r.taken = p.some (omega (arith, rest_long)) in
         omega (arith, take_fits)
 
+    split : take (at + r.taken) piece ≡ take at piece ++ take r.taken (take (length piece - at) (drop at piece))
+    split = rw rest_is (take-add at r.taken piece)
+
+    -- the answers to the parts are those to all of them
+    pub take_texts : text_of run store (take (at + r.taken) piece) ≡ text_of run store (take at piece) ++ text_of last lent (take r.taken (take (length piece - at) (drop at piece)))
+    take_texts = ap (text_of run store) split ∙ texts_join run store (take at piece) last lent t.leads _
+
     pub take_on : Takes run store piece (at + r.taken) r.run later_store
     take_on =
-        let split : take (at + r.taken) piece ≡ take at piece ++ take r.taken (take (length piece - at) (drop at piece)) = rw rest_is (take-add at r.taken piece) in
         let on = leads_on run store _ _ last lent t.leads _ _ r.run later_store p.takes.leads in
         record { few = take_fits; leads = rw split (leads_text _ _ _ _ _ _ on) }
 

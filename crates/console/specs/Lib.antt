@@ -1,2 +1,3 @@
 pub mod Take
+pub mod Through
 pub mod Write

@@ -5,6 +5,10 @@ use Rattle.pieces.specs.declared.feed.Run.{Run}
 use Rattle.pieces.specs.Feed.{text_of, Leads, IsStart}
 use Rattle.console.specs.declared.standard.Taken.{Taken}
 
+-- so many bytes stand at the start of a buffer: what a read answers
+abbrev pub IsPrefixLen : ℕ → List ℕ → Type 0
+IsPrefixLen n xs = (n ≤ length xs) × (n ≡ length (take n xs))
+
 -- the first bytes of a piece are taken: where the run and the store are then
 pub record Takes (run : Run) (store piece : List ℕ) (taken : ℕ) (later : Run) (later_store : List ℕ) : Type 0 where
   pub few : taken ≤ length piece

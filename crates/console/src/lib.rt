@@ -4,4 +4,4 @@
 mod standard;
 mod write;
 
-pub use standard::run;
+pub use standard::{Ended, answer_all, run};

@@ -12,7 +12,7 @@ use Rattle.model.specs.Basics.{sum}
 use Rattle.model.specs.Letter.{ten_year, ages}
 use Rattle.model.specs.HalfYear.{half_year}
 use Rattle.model.specs.Pattern.{unpaid}
-use Rattle.model.specs.Factor.{factor, factors, kept_factors}
+use Rattle.model.specs.Factor.{factor, kept_factors}
 use Rattle.model.specs.Composite.{mean, composite}
 use Rattle.model.proofs.Lists.{sum_append}
 use Rattle.model.proofs.HalfYear.{half_year_small}

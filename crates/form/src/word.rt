@@ -9,7 +9,7 @@ ghost use Rattle.form.specs.Word.{named};
 use field::field::has_fields;
 
 // RATE has two forms (F-4): `RateAlone` is "RATE with a year alone", which `form_of` tells by the count of fields.
-#[derive(Drop)]
+#[derive(Clone, Copy)]
 pub enum Word {
     Line,
     Rate,

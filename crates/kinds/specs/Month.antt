@@ -3,7 +3,6 @@
 use Rattle.std.specs.Prelude.{ℕ}
 use Rattle.model.specs.Basics.{if◌then◌else◌}
 use Rattle.model.specs.Kind.{is_month}
-use Rattle.kinds.specs.declared.month.Month.{Month}
 use Rattle.kinds.specs.declared.month.MaybeMonth.{MaybeMonth}
 use Rattle.kinds.specs.declared.month.MaybeMonth.TheVariants.{Within, Outside}
 

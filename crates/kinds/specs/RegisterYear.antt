@@ -3,7 +3,6 @@
 use Rattle.std.specs.Prelude.{ℕ}
 use Rattle.model.specs.Basics.{if◌then◌else◌}
 use Rattle.model.specs.Kind.{is_register_year}
-use Rattle.kinds.specs.declared.register_year.RegisterYear.{RegisterYear}
 use Rattle.kinds.specs.declared.register_year.MaybeRegisterYear.{MaybeRegisterYear}
 use Rattle.kinds.specs.declared.register_year.MaybeRegisterYear.TheVariants.{Within, Outside}
 

@@ -2,7 +2,7 @@
 ghost use Rattle.std.specs.Prelude.{◌≡◌};
 ghost use Rattle.kinds.specs.Factor.{maybe_factor, factor_number};
 
-#[derive(Drop)]
+#[derive(Clone, Copy)]
 pub struct Factor {
     value: u64,
 }

@@ -3,7 +3,7 @@ ghost use Rattle.std.specs.Prelude.{◌≡◌};
 ghost use Rattle.model.specs.Kind.{is_month};
 ghost use Rattle.kinds.specs.Month.{maybe_month};
 
-#[derive(Drop)]
+#[derive(Clone, Copy)]
 pub struct Month {
     value: u64,
 }

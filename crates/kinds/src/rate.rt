@@ -4,7 +4,7 @@ ghost use Rattle.model.specs.Basics.{all};
 ghost use Rattle.model.specs.Kind.{is_rate};
 ghost use Rattle.kinds.specs.Rate.{maybe_rate, rate_number};
 
-#[derive(Drop)]
+#[derive(Clone, Copy)]
 pub struct Rate {
     value: u64,
 }

@@ -3,7 +3,7 @@ ghost use Rattle.std.specs.Prelude.{◌≡◌};
 ghost use Rattle.model.specs.Kind.{is_register_year};
 ghost use Rattle.kinds.specs.RegisterYear.{maybe_register_year};
 
-#[derive(Drop)]
+#[derive(Clone, Copy)]
 pub struct RegisterYear {
     value: u64,
 }

@@ -3,7 +3,7 @@ ghost use Rattle.std.specs.Prelude.{◌≡◌};
 ghost use Rattle.model.specs.Kind.{is_year};
 ghost use Rattle.kinds.specs.Year.{maybe_year, year_number};
 
-#[derive(Drop)]
+#[derive(Clone, Copy)]
 pub struct Year {
     value: u64,
 }

@@ -9,7 +9,7 @@ use borrow.Author.Tests.{eq-eqb, ne_eqb}
 use lib.Dec.{eqb}
 use lib.ListN.{length, take, drop, get_or, length-take}
 use lib.Seq.{drop-length}
-use Rattle.bytes.specs.Bytes.{index_after, index_of}
+use Rattle.line_end.specs.Index.{index_of}
 use Rattle.model.specs.Basics.{if◌then◌else◌, among}
 use Rattle.model.proofs.Lists.{drop_next}
 use Rattle.line_end.proofs.Blocks.{among_by}
@@ -19,7 +19,7 @@ unfolding index_of
 index_none = refl
 
 index_by : (b : ℕ) (bytes : List ℕ) (t : Bool) → eqb b 10 ≡ t → index_of 10 (b ∷ bytes) ≡ (if t then 0 else suc (index_of 10 bytes))
-unfolding index_of index_after
+unfolding index_of
 index_by b bytes true e = rw e
 index_by b bytes false e = rw e
 

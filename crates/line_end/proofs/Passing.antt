@@ -7,7 +7,7 @@ use Prim.Native.Nat.{ℕ, ◌+◌, ◌-◌, ◌≤◌, ◌<◌}
 use native.Mathlib.Omega.{arith}
 use lib.ListN.{length, take, drop, length-take, length-drop, drop_of_length-le, take-append-drop}
 use lib.Seq.{drop-drop, take_all}
-use Rattle.bytes.specs.Bytes.{index_of}
+use Rattle.line_end.specs.Index.{index_of}
 use Rattle.model.specs.Basics.{if◌then◌else◌, among}
 use Rattle.line_end.specs.Scan.{EndsAt, EndsIn}
 use Rattle.line_end.proofs.First.{index_none, first_within, index_joined}

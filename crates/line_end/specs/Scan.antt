@@ -1,7 +1,7 @@
 -- The next byte 10, and the block that it is in.
 -- Assumes nothing: these are definitions.
 use Rattle.std.specs.Prelude.{List, ◌≡◌, ℕ, ◌+◌, ◌-◌, ◌≤◌, length, take, drop}
-use Rattle.bytes.specs.Bytes.{index_of}
+use Rattle.line_end.specs.Index.{index_of}
 
 -- the next byte 10 from place `start` on is at `end`, or there is none and `end` is the input's end
 pub record EndsAt (input : List ℕ) (start end : ℕ) : Type 0 where

@@ -1,6 +1,6 @@
 // The next byte 10. Blocks without one are passed over whole. A block's bytes are all looked at, so that the compiler can compare them at once, without branches.
 ghost use Rattle.std.specs.Prelude.{◌≡◌, ◌≤◌, length};
-ghost use Rattle.bytes.specs.Bytes.{index_of};
+ghost use Rattle.line_end.specs.Index.{index_of};
 ghost use Rattle.model.specs.Basics.{among};
 ghost use Rattle.line_end.specs.Scan.{EndsAt, EndsIn};
 

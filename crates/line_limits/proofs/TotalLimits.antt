@@ -15,7 +15,7 @@ use Rattle.model.specs.Kind.{is_year}
 use Rattle.model.proofs.Lists.{and_left, and_right}
 use Rattle.money.proofs.Signed.{sum_size, less_size}
 use Rattle.line_limits.specs.declared.totals.Totals.{Totals}
-use Rattle.line_limits.specs.Totals.{totals_by, years_through, most_aYear, total_limit, total_in, or_zero, total_cell, totals_in, total_cells, Within, with_year_of}
+use Rattle.line_limits.specs.Totals.{totals_by, years_through, most_a_year, total_limit, total_in, or_zero, total_cell, totals_in, total_cells, Within, with_year_of}
 
 -- a total read from a cell
 total_within : (limit cell : ℕ) → nat_abs (total_in limit cell) ≤ limit
@@ -74,7 +74,7 @@ pub years_few : (closed : ℕ) → years_through closed ≤ 113
 years_few closed = (years_of closed (is_year closed) refl).0
 
 -- every total is far within an i64
-pub limit_small : (closed : ℕ) → total_limit closed ≤ 113 * most_aYear
+pub limit_small : (closed : ℕ) → total_limit closed ≤ 113 * most_a_year
 unfolding total_limit
 limit_small closed = omega (arith, years_few closed)
 
@@ -96,11 +96,11 @@ module _ (closed year : ℕ) (y : is_year year ≡ true) (later : is_year closed
   more : years_through closed + 1 ≤ years_through year
   more = more_by (is_year closed) refl
 
-  pub more_limit : total_limit closed + most_aYear ≤ total_limit year
+  pub more_limit : total_limit closed + most_a_year ≤ total_limit year
   unfolding total_limit
   more_limit = omega (arith, more)
 
-  pub year_within_lem : (totals : Totals) (paid loss : ℤ) → Within closed totals → nat_abs paid ≤ most_aYear → nat_abs loss ≤ most_aYear → Within year (with_year_of totals paid loss)
+  pub year_within_lem : (totals : Totals) (paid loss : ℤ) → Within closed totals → nat_abs paid ≤ most_a_year → nat_abs loss ≤ most_a_year → Within year (with_year_of totals paid loss)
   year_within_lem totals paid loss w p l =
       record {
         years = omega (arith, w.years, more);

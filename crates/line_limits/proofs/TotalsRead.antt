@@ -17,7 +17,7 @@ use Rattle.model.specs.Kind.{is_year}
 use Rattle.model.proofs.Lists.{and_left, and_right}
 use Rattle.money.proofs.Signed.{sum_size, negative_size, size_fits, read_back}
 use Rattle.line_limits.specs.declared.totals.Totals.{Totals}
-use Rattle.line_limits.specs.Totals.{years_through, most_aYear, total_limit, total_in, or_zero, total_cell, totals_in, total_cells}
+use Rattle.line_limits.specs.Totals.{years_through, most_a_year, total_limit, total_in, or_zero, total_cell, totals_in, total_cells}
 
 -- the years through a closed one
 module _ (closed : ℕ) (t : Bool) (et : t ≡ is_year closed) where
@@ -36,7 +36,7 @@ module _ (closed : ℕ) (t : Bool) (et : t ≡ is_year closed) where
   no_years y = (rw (← et, y), omega arith)
 
 -- a total from its cell
-module _ (limit cell distance : ℕ) (small : limit ≤ 113 * most_aYear) (e : distance ≡ min cell (2 * limit)) where
+module _ (limit cell distance : ℕ) (small : limit ≤ 113 * most_a_year) (e : distance ≡ min cell (2 * limit)) where
   abbrev total : ℤ
   total = pos distance -ℤ pos limit
 
@@ -57,7 +57,7 @@ module _ (limit cell distance : ℕ) (small : limit ≤ 113 * most_aYear) (e : d
   total_read = rw (distance_alone, limit_alone, read_back total total_small, e)
 
 -- a total into its cell: it is past the limit, or the distance is below zero, or neither
-module _ (limit : ℕ) (small : limit ≤ 113 * most_aYear) where
+module _ (limit : ℕ) (small : limit ≤ 113 * most_a_year) where
   past : (v : ℤ) → lt_z (pos limit) v ≡ true → 2 * limit ≡ total_cell limit v
   unfolding total_cell
   past (pos n) e = let lt : limit < n = ltb-true limit n e in omega arith
@@ -91,7 +91,7 @@ size_is : (d : ℤ) → lt_z d (pos 0) ≡ false → nat_abs d ≡ or_zero d
 size_is (pos n) e = refl
 size_is (negsuc n) e = cc
 
-module _ (limit : ℕ) (small : limit ≤ 113 * most_aYear) (v : ℤ) (fv : SFits w64 v) where
+module _ (limit : ℕ) (small : limit ≤ 113 * most_a_year) (v : ℤ) (fv : SFits w64 v) where
   limit_read : to_z w64 limit ≡ pos limit
   limit_read = to_z_pos w64 (omega arith)
 
@@ -129,12 +129,12 @@ as_read v w f e = to_z-of_z f ∙ e
 
 -- all three of them
 module _ (closed years : ℕ) (ey : years ≡ years_through closed) where
-  pub totals_read : (cells : List ℕ) (count : ℕ) → count ≡ min (get_or cells 0 0) years → (paid : ℤ) → paid ≡ total_in (most_aYear * years) (get_or cells 1 0) → (losses : ℤ) → losses ≡ total_in (most_aYear * years) (get_or cells 2 0)
+  pub totals_read : (cells : List ℕ) (count : ℕ) → count ≡ min (get_or cells 0 0) years → (paid : ℤ) → paid ≡ total_in (most_a_year * years) (get_or cells 1 0) → (losses : ℤ) → losses ≡ total_in (most_a_year * years) (get_or cells 2 0)
       → ◌≡◌ {A = Totals} (record { years = count; paid = paid; losses = losses }) (totals_in closed cells)
   unfolding totals_in total_limit
   totals_read cells count ec paid ep losses el = rw (ec, ep, el, ey)
 
-  pub totals_kept : (totals : Totals) (paid losses : ℤ) → paid ≡ totals.paid → losses ≡ totals.losses → (p : ℕ) → p ≡ total_cell (most_aYear * years) paid → (l : ℕ) → l ≡ total_cell (most_aYear * years) losses
+  pub totals_kept : (totals : Totals) (paid losses : ℤ) → paid ≡ totals.paid → losses ≡ totals.losses → (p : ℕ) → p ≡ total_cell (most_a_year * years) paid → (l : ℕ) → l ≡ total_cell (most_a_year * years) losses
       → totals.years ∷ p ∷ l ∷ [] ≡ total_cells closed totals
   unfolding total_cells total_limit
   totals_kept totals paid losses ep el p fp l fl = rw (fp, fl, ep, el, ey)

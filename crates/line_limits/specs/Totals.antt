@@ -19,11 +19,11 @@ abbrev pub years_through : ℕ → ℕ
 years_through closed = if is_year closed then closed - 1987 + 1 else 0
 
 -- what a year can lose at most, either sign; so a total is at most as much for each of these years
-abbrev pub most_aYear : ℕ
-most_aYear = 220000000000
+abbrev pub most_a_year : ℕ
+most_a_year = 220000000000
 
 unfoldable pub total_limit : ℕ → ℕ
-total_limit closed = most_aYear * years_through closed
+total_limit closed = most_a_year * years_through closed
 
 -- a cell has the distance of a total from the least one: what lies past the limit is read as the limit
 unfoldable pub total_in : ℕ → ℕ → ℤ

@@ -1,5 +1,5 @@
 // A line of the book.
-#[derive(Drop)]
+#[derive(Clone, Copy)]
 pub struct Line {
     pub declared: bool,
     pub opening: u64,

@@ -1,11 +1,11 @@
 // A line's totals, and the cells that they are kept in, each read through its limit.
 ghost use Rattle.std.specs.Prelude.{◌≡◌, ◌*◌, ◌≤◌, min};
-ghost use Rattle.line_limits.specs.Totals.{years_through, most_aYear, total_in, total_cell, totals_in, total_cells};
+ghost use Rattle.line_limits.specs.Totals.{years_through, most_a_year, total_in, total_cell, totals_in, total_cells};
 
 use kinds::year::{Year, is_year};
 
 // "a line's figures since its first closing": the count of closed years, all paid and all tax-basis losses.
-#[derive(Drop)]
+#[derive(Clone, Copy)]
 pub struct Totals {
     pub years: u64,
     pub paid: i64,
@@ -52,7 +52,7 @@ fn years_through(closed: u64) -> u64
 
 // The total that a cell has as its distance from the least one: past the limit it is read as the limit.
 fn total_in(cell: u64, limit: u64) -> i64
-    requires { limit ≤ 113 * most_aYear }
+    requires { limit ≤ 113 * most_a_year }
     ensures { result ≡ total_in limit cell }
 {
     let distance = at_most(cell, 2 * limit);
@@ -61,7 +61,7 @@ fn total_in(cell: u64, limit: u64) -> i64
 
 // The cell of a total: past the limit it is kept as the limit.
 fn total_cell(total: i64, limit: u64) -> u64
-    requires { limit ≤ 113 * most_aYear }
+    requires { limit ≤ 113 * most_a_year }
     ensures { result ≡ total_cell limit total }
 {
     if total > limit as i64 {

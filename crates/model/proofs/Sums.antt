@@ -5,7 +5,7 @@ use mathlib.Core.List.{List, append-nil}
 use mathlib.Core.Option.{none, some}
 use Prim.Native.Nat.{ℕ}
 use lib.ListN.{length-append}
-use lib.IntN.{ℤ, pos, ◌+ℤ◌, +ℤ_idr}
+use lib.IntN.{ℤ, pos, +ℤ_idr}
 use Rattle.model.specs.Book.{Totals}
 use Rattle.model.specs.Step.{with_year}
 use Rattle.model.specs.History.{Entry, year_from, paid_from, paid_answered, loss_from, years_in, paid_in, paid_answered_in, losses_in}

@@ -9,7 +9,6 @@ use native.Mathlib.Omega.{arith}
 use borrow.Author.Tests.{eqb-true}
 use lib.Dec.{eqb}
 use lib.ListN.{drop, replicate}
-use Rattle.model.specs.Basics.{if◌then◌else◌}
 use Rattle.model.specs.Letter.{ten_year, two_year}
 use Rattle.model.specs.Pattern.{ages_of, cumulative_ratio}
 use Rattle.model.specs.Tail.{capped, tail_cap, ten_year_tail, schedule}

@@ -9,7 +9,7 @@ use native.Mathlib.Nat.{pow-suc, pow-le-pow_right, mul-le-mul_right}
 use borrow.Author.Tests.{leb-true, eqb-false, not-true}
 use lib.Dec.{eqb, leb}
 use lib.ListN.{length}
-use lib.IntN.{ℤ, pos, nat_abs, neg_ℤ}
+use lib.IntN.{pos, nat_abs, neg_ℤ}
 use Rattle.model.specs.Basics.{if◌then◌else◌, same, all, bytes}
 use Rattle.model.specs.Letter.{ten_year, two_year, covered}
 use Rattle.model.specs.Field.{only_byte}

@@ -4,7 +4,7 @@ ghost use Rattle.model.specs.Basics.{all};
 ghost use Rattle.model.specs.Kind.{is_amount};
 ghost use Rattle.money.specs.Amount.{maybe_amount, amount_number};
 
-#[derive(Drop)]
+#[derive(Clone, Copy)]
 pub struct Amount {
     value: u64,
 }

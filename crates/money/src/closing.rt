@@ -2,7 +2,7 @@
 ghost use Rattle.std.specs.Prelude.{◌≡◌};
 ghost use Rattle.money.specs.Closing.{maybe_closing, closing_number};
 
-#[derive(Drop)]
+#[derive(Clone, Copy)]
 pub struct Closing {
     value: u64,
 }

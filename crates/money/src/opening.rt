@@ -3,7 +3,7 @@ ghost use Rattle.std.specs.Prelude.{◌≡◌};
 ghost use Rattle.model.specs.Kind.{is_opening};
 ghost use Rattle.money.specs.Opening.{maybe_opening, opening_number};
 
-#[derive(Drop)]
+#[derive(Clone, Copy)]
 pub struct Opening {
     value: u64,
 }

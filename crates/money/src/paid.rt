@@ -4,7 +4,7 @@ ghost use Rattle.model.specs.Basics.{all};
 ghost use Rattle.model.specs.Kind.{is_paid};
 ghost use Rattle.money.specs.Paid.{maybe_paid};
 
-#[derive(Drop)]
+#[derive(Clone, Copy)]
 pub struct Paid {
     value: i64,
 }

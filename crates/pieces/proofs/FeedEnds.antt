@@ -11,7 +11,7 @@ use lib.Seq.{take-length, take-take, take_all, drop-length}
 use Rattle.model.specs.Answer.{done_text}
 use Rattle.state.specs.declared.book.Book.{Book}
 use Rattle.state.specs.View.{empty_book, empty_store}
-use Rattle.bytes.specs.Bytes.{index_of}
+use Rattle.line_end.specs.Index.{index_of}
 use Rattle.line_end.specs.Scan.{EndsAt}
 use Rattle.answer.specs.Put.{placed, Puts}
 use Rattle.answer.specs.Text.{has_room, PutsWithRoom}

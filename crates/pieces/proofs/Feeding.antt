@@ -10,7 +10,7 @@ use lib.Dec.{ltb}
 use lib.ListN.{length, take, drop, length-take, length-drop}
 use lib.Seq.{take-length, take-add, drop-drop}
 use Rattle.state.specs.declared.book.Book.{Book}
-use Rattle.bytes.specs.Bytes.{index_of}
+use Rattle.line_end.specs.Index.{index_of}
 use Rattle.line_end.specs.Scan.{EndsAt}
 use Rattle.answer.specs.Put.{placed, Puts}
 use Rattle.answer.specs.Text.{has_room, PutsWithRoom}

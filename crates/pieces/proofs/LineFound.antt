@@ -9,7 +9,7 @@ use borrow.Author.Tests.{le-leb, eqb-true}
 use lib.Dec.{eqb}
 use lib.ListN.{length, take, drop, length-take}
 use lib.Seq.{take_all}
-use Rattle.bytes.specs.Bytes.{index_after, index_of}
+use Rattle.line_end.specs.Index.{index_of}
 use Rattle.pieces.specs.Progress.{Progress, lengthened, taking, taking_all, taken_of, kept_bytes}
 use Rattle.pieces.proofs.Cut.{take_join}
 
@@ -35,7 +35,7 @@ unfolding lengthened
 still_short s bytes = rw (length-take kept_bytes (s.line ++ bytes)) (omega arith)
 
 longer_by : (b : ℕ) (rest : List ℕ) → Longer rest → (t : Bool) → eqb b 10 ≡ t → Longer (b ∷ rest)
-unfolding taking_all index_of index_after
+unfolding taking_all index_of
 longer_by b rest more true e s short = rw e (lengthened_none s short)
 longer_by b rest more false e s short =
     let bytes = take (index_of 10 rest) rest in
@@ -64,7 +64,7 @@ Counts size rest =
     → taken_of size s rest ≡ index_of 10 rest + taken_of size (lengthened s (take (index_of 10 rest) rest)) (drop (index_of 10 rest) rest)
 
 counts_by : (size b : ℕ) (rest : List ℕ) → Counts size rest → (t : Bool) → eqb b 10 ≡ t → Counts size (b ∷ rest)
-unfolding index_of index_after
+unfolding index_of
 counts_by size b rest more true e s short room = rw (e, ← (lengthened_none s short)) (omega arith)
 counts_by size b rest more false e s short room =
     let next : taking s b ≡ lengthened s (b ∷ []) = goes_on s b e in
@@ -81,7 +81,7 @@ line_counted size (b ∷ rest) s short room = counts_by size b rest (line_counte
 -- the byte 10 that was found
 found_by : (b : ℕ) (rest : List ℕ) → (index_of 10 rest < length rest → drop (index_of 10 rest) rest ≡ 10 ∷ drop (suc (index_of 10 rest)) rest) → (t : Bool) → eqb b 10 ≡ t
     → index_of 10 (b ∷ rest) < length (b ∷ rest) → drop (index_of 10 (b ∷ rest)) (b ∷ rest) ≡ 10 ∷ drop (suc (index_of 10 (b ∷ rest))) (b ∷ rest)
-unfolding index_of index_after
+unfolding index_of
 found_by b rest more true e lt = rw (e, eqb-true b 10 e)
 found_by b rest more false e lt =
     let index : index_of 10 (b ∷ rest) ≡ suc (index_of 10 rest) = rw e in

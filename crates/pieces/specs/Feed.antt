@@ -8,13 +8,13 @@ use Rattle.state.specs.View.{view, empty_book, empty_store}
 use Rattle.ledger.specs.Does.{book_after, store_after}
 use Rattle.answer.specs.Put.{Puts}
 use Rattle.answer.specs.Text.{has_room, PutsWithRoom}
-use Rattle.bytes.specs.Bytes.{index_of}
+use Rattle.line_end.specs.Index.{index_of}
 use Rattle.pieces.specs.declared.line.OpenLine.{OpenLine}
 use Rattle.pieces.specs.declared.answer_line.Answered.{Answered}
 use Rattle.pieces.specs.declared.answer_lines.Lines.{Lines}
 use Rattle.pieces.specs.declared.feed.Run.{Run}
 use Rattle.pieces.specs.declared.feed.Fed.{Fed}
-use Rattle.pieces.specs.Progress.{Progress, start, kept_bytes, at_end, taking_all, taken_of}
+use Rattle.pieces.specs.Progress.{Progress, kept_bytes, at_end, taking_all, taken_of}
 
 -- the line so far, and the open line that it is: zeros after it
 abbrev pub bytes_of : OpenLine → List ℕ

@@ -9,7 +9,7 @@ use state::book::{Book, empty};
 use state::store::Store;
 
 // What stands between two pieces.
-#[derive(Drop)]
+#[derive(Clone, Copy)]
 pub struct Run {
     pub book: Book,
     pub line: OpenLine,

@@ -10,7 +10,7 @@ use record::read::LONGEST;
 pub const KEPT: usize = LONGEST + 1;
 
 // The first `count` of `bytes`. The functions here leave zeros after them.
-#[derive(Drop)]
+#[derive(Clone, Copy)]
 pub struct OpenLine {
     pub bytes: [u8; KEPT],
     pub count: usize,

@@ -1,6 +1,5 @@
 // "The reader of a line carries the line and its place."
-// The borrow checker covers no function over a struct that holds a slice: `begin`, `number` and `read_number` are proved by hand, and thin.
-// `number` leaves the work to `number_from`, which takes a plain slice and is covered, and every other caller calls `read_number`, whose parameters are plain too.
+// `number` leaves the work to `number_from`, which takes a plain slice, and every other caller calls `read_number`, whose parameters are plain too.
 #![tactic(auto)]
 
 ghost use Rattle.std.specs.Prelude.{◌≡◌, drop};

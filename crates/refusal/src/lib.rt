@@ -5,7 +5,7 @@ ghost use Rattle.std.specs.Prelude.{◌≡◌};
 ghost use Rattle.refusal.specs.Number.{number_of};
 
 // What is wrong where a question is answered no: 1 to 13, in document 01's order, and F-4's 14.
-#[derive(Drop)]
+#[derive(Clone, Copy)]
 pub enum Refusal {
     TooLong,
     UnknownWord,
@@ -24,7 +24,7 @@ pub enum Refusal {
 }
 
 // What questions come to: none is answered no, or what is wrong at the first that is.
-#[derive(Drop)]
+#[derive(Clone, Copy)]
 pub enum Verdict {
     Fine,
     Refused(Refusal),

@@ -2,7 +2,7 @@
 -- Assumes nothing.
 use mathlib.Core.List.{List}
 use mathlib.Core.Option.{none, some}
-use mathlib.Core.Path.{◌≡◌, refl}
+use mathlib.Core.Path.{◌≡◌, refl, subst}
 use Prim.Native.Nat.{ℕ, zero, suc, ◌-◌, ◌≤◌, ◌<◌}
 use native.Mathlib.Omega.{arith}
 use borrow.Author.Tests.{eq-eqb, ne_eqb}
@@ -28,13 +28,15 @@ unfolding kept_back
 find_kept store letter zero year k lt le = absurd (omega arith)
 find_kept store letter (suc n) year zero lt le = let same : year - 0 ≡ year = omega arith in rw (same, eq-eqb year year refl)
 find_kept store letter (suc n) year (suc k) lt le =
-    let before : year - suc k ≡ (year - 1) - k = omega arith in
-    rw (ne_eqb (year - suc k) year (λ e. omega arith), before) (find_kept store letter n (year - 1) k (omega arith) (omega arith))
+    let before : (year - 1) - k ≡ year - suc k = omega arith in
+    subst (λ (y : ℕ). find y (kept_back store letter (suc n) year) ≡ some (pattern_at store letter y)) before
+    (rw (ne_eqb ((year - 1) - k) year (λ e. omega arith)) (find_kept store letter n (year - 1) k (omega arith) (omega arith)))
 
 pub find_none : (store : List ℕ) (letter n year k : ℕ) → n ≤ k → k ≤ year → find (year - k) (kept_back store letter n year) ≡ none
 unfolding kept_back
 find_none store letter zero year k le lk = refl
 find_none store letter (suc n) year zero le lk = absurd (omega arith)
 find_none store letter (suc n) year (suc k) le lk =
-    let before : year - suc k ≡ (year - 1) - k = omega arith in
-    rw (ne_eqb (year - suc k) year (λ e. omega arith), before) (find_none store letter n (year - 1) k (omega arith) (omega arith))
+    let before : (year - 1) - k ≡ year - suc k = omega arith in
+    subst (λ (y : ℕ). find y (kept_back store letter (suc n) year) ≡ none) before
+    (rw (ne_eqb ((year - 1) - k) year (λ e. omega arith)) (find_none store letter n (year - 1) k (omega arith) (omega arith)))

@@ -1,8 +1,8 @@
 -- Cells written into one region of the store leave the regions before and after it as they were.
 -- Assumes nothing.
-use mathlib.Core.Bool.{Bool, true, false, ◌&&◌}
+use mathlib.Core.Bool.{Bool, true, false}
 use mathlib.Core.List.{List}
-use mathlib.Core.Path.{◌≡◌, refl, sym, ◌∙◌, ap, fun_ext}
+use mathlib.Core.Path.{◌≡◌, refl, ap, fun_ext}
 use Prim.Native.Nat.{ℕ, ◌+◌, ◌≤◌}
 use native.Mathlib.Omega.{arith}
 use lib.ListN.{length, get_or}
@@ -11,7 +11,7 @@ use Rattle.state.specs.Store.{piece, written, slots_start, hints_start, totals_s
 use Rattle.state.specs.Lines.{line_start, line_at}
 use Rattle.state.specs.Patterns.{slot_start, slot_at}
 use Rattle.state.specs.Totals.{total_start, totals_at}
-use Rattle.state.specs.Months.{is_date, month_start, month_in, register_of}
+use Rattle.state.specs.Months.{month_start, register_of}
 use Rattle.state.proofs.Places.{covered_place}
 use Rattle.state.proofs.Pieces as pieces
 

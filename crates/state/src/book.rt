@@ -9,7 +9,7 @@ use crate::store::Store;
 pub const NO_RATE: u16 = 65535;
 
 // "The book holds one rate place for each year from 1987 to 2099.", and both counts.
-#[derive(Drop)]
+#[derive(Clone, Copy)]
 pub struct Book {
     pub rates: [u16; 113],
     pub accepted: u64,

@@ -1,6 +1,6 @@
 // The book program on an empty input.
 #![tactic(auto)]
 
-fn main() {
-    console::run()
+fn main(rt: HostRuntime) {
+    console::run(rt)
 }

@@ -1,6 +1,6 @@
 // The book program on exhibits 9, 10 and 11 of source 000.
 #![tactic(auto)]
 
-fn main() {
-    console::run()
+fn main(rt: HostRuntime) {
+    console::run(rt)
 }

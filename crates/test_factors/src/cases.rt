@@ -2,16 +2,17 @@
 ghost use Rattle.std.specs.Prelude.{◌≤◌};
 
 use crate::print::show;
+use std::io::{self, Write};
 
-pub fn given_patterns() {
+pub fn given_patterns<W: Write>(output: &mut W) -> io::Result<()> {
     let ten_year = TEN_YEAR;
-    each(b'A', 10, &ten_year);
+    each(output, b'A', 10, &ten_year)?;
     let two_year = TWO_YEAR;
-    each(b'J', 2, &two_year);
+    each(output, b'J', 2, &two_year)
 }
 
 // Each case is a rate, the paid by age and the incurred by age.
-fn each(letter: u8, ages: usize, cases: &[u64])
+fn each<W: Write>(output: &mut W, letter: u8, ages: usize, cases: &[u64]) -> io::Result<()>
     requires { ages ≤ 10 }
 {
     let mut at = 0;
@@ -20,16 +21,18 @@ fn each(letter: u8, ages: usize, cases: &[u64])
         let middle = first + ages;
         let end = middle + ages;
         if cases.len() < end {
-            return;
+            return Ok(());
         }
         show(
+            output,
             letter,
             cases[at],
             &cases[first..middle],
             &cases[middle..end],
-        );
+        )?;
         at = end;
     }
+    Ok(())
 }
 
 const TEN_YEAR: [u64; 945] = [

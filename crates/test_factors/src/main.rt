@@ -5,8 +5,12 @@ mod cases;
 mod print;
 mod random;
 
-fn main() {
-    cases::given_patterns();
-    random::ten_year_patterns();
-    random::two_year_patterns();
+use std::io::{self, BufWriter, Write};
+
+fn main(rt: HostRuntime) -> io::Result<()> {
+    let mut output = BufWriter::new(rt.alloc(), rt.stdout())?;
+    cases::given_patterns(&mut output)?;
+    random::ten_year_patterns(&mut output)?;
+    random::two_year_patterns(&mut output)?;
+    output.flush()
 }

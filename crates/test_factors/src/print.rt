@@ -1,35 +1,46 @@
 // A line of output: the rate, the verdict's question (0: fine), the kept factors and the composite, parted by spaces. A number that is no rate has its question alone.
 use half_year::half_year;
 use kinds::rate::{MaybeRate, Rate};
-use libc::STDOUT_FILENO;
 use refusal::{Refusal, Verdict};
+use std::io::{self, Write};
 
-pub fn show(letter: u8, rate: u64, paid: &[u64], incurred: &[u64]) {
-    io::print_decimal(STDOUT_FILENO, rate);
+pub fn show<W: Write>(
+    output: &mut W,
+    letter: u8,
+    rate: u64,
+    paid: &[u64],
+    incurred: &[u64],
+) -> io::Result<()> {
+    write!(output, "{rate}")?;
     match Rate::new(rate) {
-        MaybeRate::Within(given) => show_pattern(letter, given, paid, incurred),
-        MaybeRate::Outside => field(Refusal::OutsideLimits.number()),
+        MaybeRate::Within(given) => show_pattern(output, letter, given, paid, incurred)?,
+        MaybeRate::Outside => field(output, Refusal::OutsideLimits.number())?,
     }
-    io::write_all(STDOUT_FILENO, b"\n");
+    output.write_all(b"\n")
 }
 
 // The half-year factor itself is the hint.
-fn show_pattern(letter: u8, rate: Rate, paid: &[u64], incurred: &[u64]) {
+fn show_pattern<W: Write>(
+    output: &mut W,
+    letter: u8,
+    rate: Rate,
+    paid: &[u64],
+    incurred: &[u64],
+) -> io::Result<()> {
     let pattern = factor::pattern::discount(letter, rate, half_year(rate), paid, incurred);
     let verdict = pattern.verdict;
-    field(question(verdict));
+    field(output, question(verdict))?;
     let factors = pattern.factors;
     let mut i = 0;
     while i < 10 {
-        field(factors[i]);
+        field(output, factors[i])?;
         i += 1;
     }
-    field(pattern.composite);
+    field(output, pattern.composite)
 }
 
-fn field(n: u64) {
-    io::write_all(STDOUT_FILENO, b" ");
-    io::print_decimal(STDOUT_FILENO, n);
+fn field<W: Write>(output: &mut W, n: u64) -> io::Result<()> {
+    write!(output, " {n}")
 }
 
 fn question(verdict: Verdict) -> u64 {

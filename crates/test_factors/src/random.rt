@@ -1,25 +1,28 @@
 // Random patterns: a linear congruential generator, the shares paid by age in millionths, and an incurred of its own for each age.
 use crate::print::show;
+use std::io::{self, Write};
 
-pub fn ten_year_patterns() {
+pub fn ten_year_patterns<W: Write>(output: &mut W) -> io::Result<()> {
     let mut state: u64 = 1987;
     let mut left: u64 = 100;
     while 0 < left {
-        state = ten_year_pattern(state);
+        state = ten_year_pattern(output, state)?;
         left -= 1;
     }
+    Ok(())
 }
 
-pub fn two_year_patterns() {
+pub fn two_year_patterns<W: Write>(output: &mut W) -> io::Result<()> {
     let mut state: u64 = 2099;
     let mut left: u64 = 50;
     while 0 < left {
-        state = two_year_pattern(state);
+        state = two_year_pattern(output, state)?;
         left -= 1;
     }
+    Ok(())
 }
 
-fn ten_year_pattern(start: u64) -> u64 {
+fn ten_year_pattern<W: Write>(output: &mut W, start: u64) -> io::Result<u64> {
     let mut state = next(start);
     let rate = state % 2501;
     let mut paid = [0u64; 10];
@@ -35,11 +38,11 @@ fn ten_year_pattern(start: u64) -> u64 {
         paid[i] = part(amount, share);
         i += 1;
     }
-    show(b'A', rate, &paid, &incurred);
-    state
+    show(output, b'A', rate, &paid, &incurred)?;
+    Ok(state)
 }
 
-fn two_year_pattern(start: u64) -> u64 {
+fn two_year_pattern<W: Write>(output: &mut W, start: u64) -> io::Result<u64> {
     let first = next(start);
     let second = next(first);
     let third = next(second);
@@ -48,8 +51,8 @@ fn two_year_pattern(start: u64) -> u64 {
         part(5000000, share),
         part(7000000, further(share, third % 400000)),
     ];
-    show(b'J', first % 2501, &paid, &[5000000, 7000000]);
-    third
+    show(output, b'J', first % 2501, &paid, &[5000000, 7000000])?;
+    Ok(third)
 }
 
 fn next(state: u64) -> u64 {

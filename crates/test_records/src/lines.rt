@@ -2,14 +2,16 @@
 ghost use Rattle.std.specs.Prelude.{◌≤◌, length};
 
 use crate::print::show;
+use std::io::{self, Write};
 
-pub fn each(input: &[u8]) {
+pub fn each<W: Write>(output: &mut W, input: &[u8]) -> io::Result<()> {
     let mut at = 0;
     while at < input.len() {
         let end = line_end(input, at);
-        show(&input[at..end]);
+        show(output, &input[at..end])?;
         at = end + 1;
     }
+    Ok(())
 }
 
 // Where the line that starts at a place ends.

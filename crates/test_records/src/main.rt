@@ -4,10 +4,15 @@
 mod lines;
 mod print;
 
-use libc::STDIN_FILENO;
+use std::io::{self, BufWriter, Read, Write};
 
-fn main() {
-    let mut input = io::large_buffer();
-    let n = io::read_full(STDIN_FILENO, &mut input);
-    lines::each(&input[..n]);
+// The longest input that is read.
+const MOST: u64 = 65536;
+
+fn main(rt: HostRuntime) -> io::Result<()> {
+    let mut input = Vec::new(rt.alloc());
+    rt.stdin().take(MOST).read_to_end(&mut input)?;
+    let mut output = BufWriter::new(rt.alloc(), rt.stdout())?;
+    lines::each(&mut output, &input)?;
+    output.flush()
 }

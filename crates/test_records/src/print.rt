@@ -6,81 +6,77 @@ use kinds::rate::Rate;
 use kinds::register_year::is_register_year;
 use kinds::year::is_year;
 use letters::letter::is_ten_year;
-use libc::STDOUT_FILENO;
 use money::amount::Amount;
 use money::opening::is_opening;
 use record::request::Asked;
 use refusal::Refusal;
+use std::io::{self, Write};
 
 // Questions 1 to 5 are asked by `read`, and 6 here: a call with numbers asks it in the book.
-pub fn show(line: &[u8]) {
+pub fn show<W: Write>(output: &mut W, line: &[u8]) -> io::Result<()> {
     let mut minus = [false; 62];
     let mut sizes = [0u64; 62];
     let request = record::read::read(line, &mut minus, &mut sizes);
     let letter = request.letter;
     let asked = request.asked;
     match asked {
-        Asked::Refused(refusal) => no(refusal),
-        Asked::Declare => declare(letter, sizes[2]),
-        Asked::SetRate => set_rate(&sizes),
-        Asked::AddPattern => add_pattern(letter, &minus, &sizes),
-        Asked::CloseYear => close_year(letter, &minus, &sizes),
-        Asked::Totals => word(b"SUM", letter),
-        Asked::RegisterMonth => register_month(&sizes),
-        Asked::SetRateFromRegister => set_rate_from_register(sizes[1]),
+        Asked::Refused(refusal) => no(output, refusal)?,
+        Asked::Declare => declare(output, letter, sizes[2])?,
+        Asked::SetRate => set_rate(output, &sizes)?,
+        Asked::AddPattern => add_pattern(output, letter, &minus, &sizes)?,
+        Asked::CloseYear => close_year(output, letter, &minus, &sizes)?,
+        Asked::Totals => word(output, b"SUM", letter)?,
+        Asked::RegisterMonth => register_month(output, &sizes)?,
+        Asked::SetRateFromRegister => set_rate_from_register(output, sizes[1])?,
     }
-    text(b"\n");
+    text(output, b"\n")
 }
 
-fn no(refusal: Refusal) {
-    text(b"NO");
-    number(refusal.number());
+fn no<W: Write>(output: &mut W, refusal: Refusal) -> io::Result<()> {
+    text(output, b"NO")?;
+    number(output, refusal.number())
 }
 
-fn declare(letter: u8, opening: u64) {
+fn declare<W: Write>(output: &mut W, letter: u8, opening: u64) -> io::Result<()> {
     if is_opening(opening) {
-        word(b"LINE", letter);
-        number(opening);
-        return;
+        word(output, b"LINE", letter)?;
+        return number(output, opening);
     }
-    no(Refusal::OutsideLimits);
+    no(output, Refusal::OutsideLimits)
 }
 
-fn set_rate(sizes: &[u64; 62]) {
+fn set_rate<W: Write>(output: &mut W, sizes: &[u64; 62]) -> io::Result<()> {
     let all = &sizes[..];
     let months = &all[2..62];
     if is_year(all[1]) {
         if Rate::all(months) {
-            text(b"RATE");
-            number(all[1]);
-            numbers(months);
-            return;
+            text(output, b"RATE")?;
+            number(output, all[1])?;
+            return numbers(output, months);
         }
     }
-    no(Refusal::OutsideLimits);
+    no(output, Refusal::OutsideLimits)
 }
 
-fn register_month(sizes: &[u64; 62]) {
+fn register_month<W: Write>(output: &mut W, sizes: &[u64; 62]) -> io::Result<()> {
     let all = &sizes[..];
     if is_register_year(all[1]) {
         if is_month(all[2]) {
             if Rate::all(&all[3..4]) {
-                text(b"MIDT");
-                numbers(&all[1..4]);
-                return;
+                text(output, b"MIDT")?;
+                return numbers(output, &all[1..4]);
             }
         }
     }
-    no(Refusal::OutsideLimits);
+    no(output, Refusal::OutsideLimits)
 }
 
-fn set_rate_from_register(year: u64) {
+fn set_rate_from_register<W: Write>(output: &mut W, year: u64) -> io::Result<()> {
     if is_year(year) {
-        text(b"RATE");
-        number(year);
-        return;
+        text(output, b"RATE")?;
+        return number(output, year);
     }
-    no(Refusal::OutsideLimits);
+    no(output, Refusal::OutsideLimits)
 }
 
 fn ages(letter: u8) -> usize
@@ -93,19 +89,30 @@ fn ages(letter: u8) -> usize
 }
 
 // Lists of ten ages, with zeros past those of the line.
-fn add_pattern(letter: u8, minus: &[bool; 62], sizes: &[u64; 62]) {
+fn add_pattern<W: Write>(
+    output: &mut W,
+    letter: u8,
+    minus: &[bool; 62],
+    sizes: &[u64; 62],
+) -> io::Result<()> {
     let n = ages(letter);
-    columns(b"PATT", letter, minus, sizes, 2, 3 + 2 * n, 10 - n);
+    columns(output, b"PATT", letter, minus, sizes, 2, 3 + 2 * n, 10 - n)
 }
 
 // Lists of eleven rows, with zeros past those of the line.
-fn close_year(letter: u8, minus: &[bool; 62], sizes: &[u64; 62]) {
+fn close_year<W: Write>(
+    output: &mut W,
+    letter: u8,
+    minus: &[bool; 62],
+    sizes: &[u64; 62],
+) -> io::Result<()> {
     let n = ages(letter) + 1;
-    columns(b"YEAR", letter, minus, sizes, 3, 3 + 3 * n, 11 - n);
+    columns(output, b"YEAR", letter, minus, sizes, 3, 3 + 3 * n, 11 - n)
 }
 
 // The columns of a record of `end` fields, each with some zeros after it.
-fn columns(
+fn columns<W: Write>(
+    output: &mut W,
     name: &[u8],
     letter: u8,
     minus: &[bool; 62],
@@ -113,23 +120,23 @@ fn columns(
     count: usize,
     end: usize,
     rest: usize,
-)
+) -> io::Result<()>
     requires { (1 ≤ count) × (count ≤ 3) × (3 ≤ end) × (end ≤ 62) }
 {
     if is_year(sizes[2]) {
         if are_amounts(sizes, end) {
-            word(name, letter);
-            number(sizes[2]);
+            word(output, name, letter)?;
+            number(output, sizes[2])?;
             let mut place = 3;
             while place < 3 + count {
-                column(minus, sizes, place, count, end);
-                zeros(rest);
+                column(output, minus, sizes, place, count, end)?;
+                zeros(output, rest)?;
                 place += 1;
             }
-            return;
+            return Ok(());
         }
     }
-    no(Refusal::OutsideLimits);
+    no(output, Refusal::OutsideLimits)
 }
 
 // A paid may be below zero, and its size has the limit of other money.
@@ -141,51 +148,57 @@ fn are_amounts(sizes: &[u64; 62], end: usize) -> bool
 }
 
 // The number at a place, and each one that stands a step after the one before.
-fn column(minus: &[bool; 62], sizes: &[u64; 62], place: usize, step: usize, end: usize)
+fn column<W: Write>(
+    output: &mut W,
+    minus: &[bool; 62],
+    sizes: &[u64; 62],
+    place: usize,
+    step: usize,
+    end: usize,
+) -> io::Result<()>
     requires { (1 ≤ step) × (step ≤ 3) × (end ≤ 62) }
 {
     let mut at = place;
     while at < end {
-        signed_number(minus[at], sizes[at]);
+        signed_number(output, minus[at], sizes[at])?;
         at += step;
     }
+    Ok(())
 }
 
-fn zeros(n: usize) {
+fn zeros<W: Write>(output: &mut W, n: usize) -> io::Result<()> {
     let mut i = 0;
     while i < n {
-        number(0);
+        number(output, 0)?;
         i += 1;
     }
+    Ok(())
 }
 
-fn numbers(list: &[u64]) {
+fn numbers<W: Write>(output: &mut W, list: &[u64]) -> io::Result<()> {
     let mut i = 0;
     while i < list.len() {
-        number(list[i]);
+        number(output, list[i])?;
         i += 1;
     }
+    Ok(())
 }
 
-fn text(bytes: &[u8]) {
-    io::write_all(STDOUT_FILENO, bytes);
+fn text<W: Write>(output: &mut W, bytes: &[u8]) -> io::Result<()> {
+    output.write_all(bytes)
 }
 
-fn word(name: &[u8], letter: u8) {
-    text(name);
-    text(b" ");
-    text(&[letter]);
+fn word<W: Write>(output: &mut W, name: &[u8], letter: u8) -> io::Result<()> {
+    text(output, name)?;
+    text(output, b" ")?;
+    text(output, &[letter])
 }
 
-fn number(n: u64) {
-    text(b" ");
-    io::print_decimal(STDOUT_FILENO, n);
+fn number<W: Write>(output: &mut W, n: u64) -> io::Result<()> {
+    write!(output, " {n}")
 }
 
-fn signed_number(minus: bool, size: u64) {
-    text(b" ");
-    if minus {
-        text(b"-");
-    }
-    io::print_decimal(STDOUT_FILENO, size);
+fn signed_number<W: Write>(output: &mut W, minus: bool, size: u64) -> io::Result<()> {
+    let sign = if minus { "-" } else { "" };
+    write!(output, " {sign}{size}")
 }

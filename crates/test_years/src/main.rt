@@ -1,6 +1,6 @@
 // The book program on two lines that are closed over many years with unequal rates.
 #![tactic(auto)]
 
-fn main() {
-    console::run()
+fn main(rt: HostRuntime) {
+    console::run(rt)
 }

@@ -1,0 +1,11 @@
+-- `line_limits::totals::total_cells` meets its contract: the goals that the check leaves. Assumes nothing.
+use Rattle.line_limits.proofs.TotalsRead.{totals_kept}
+use mir.Facts.{to_z-of_z}
+use Rattle.line_limits.proofs.totals.total_cells.Goals as goal
+
+pub returns : goal.returns
+returns c =
+    let told = c in
+    let paid = told in
+    let years = paid in
+    totals_kept years.args.closed _ years.years_through-limit.ensures.0 years.args.totals _ _ (search (to_z-of_z, told.struct_told-2-1.given)) (search (to_z-of_z, told.struct_told-2-1.given)) _ paid.total_cell.ensures _ c.total_cell-2.ensures

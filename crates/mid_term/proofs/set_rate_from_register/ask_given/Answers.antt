@@ -1,0 +1,9 @@
+-- `mid_term::set_rate_from_register::ask_given` meets its contract: the goals that the check leaves. Assumes nothing.
+use Rattle.mid_term.proofs.FromRegister.{rate_given, rate_to_be_given}
+use Rattle.mid_term.proofs.set_rate_from_register.ask_given.Goals as goal
+
+pub ask_months-requires : goal.ask_months-requires
+ask_months-requires c = search rate_to_be_given
+
+pub returns-in-Given : goal.returns-in-Given
+returns-in-Given c = search rate_given

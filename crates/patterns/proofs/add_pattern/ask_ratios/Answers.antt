@@ -1,0 +1,10 @@
+-- `patterns::add_pattern::ask_ratios` meets its contract: the goals that the check leaves. Assumes nothing.
+use Rattle.patterns.proofs.PatternAdded.{pattern_added}
+use Rattle.patterns.proofs.PatternAsked.{ratios_refused}
+use Rattle.patterns.proofs.add_pattern.ask_ratios.Goals as goal
+
+pub returns-in-Fine : goal.returns-in-Fine
+returns-in-Fine c = search pattern_added
+
+pub returns-in-Refused : goal.returns-in-Refused
+returns-in-Refused c = search ratios_refused
