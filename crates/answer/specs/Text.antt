@@ -1,7 +1,6 @@
 -- A text put into a buffer where the longest text has room.
 -- Assumes nothing: these are definitions.
-use Rattle.std.specs.Prelude.{Bool, List, ◌≡◌, ℕ, ◌+◌, leb, length}
-use Rattle.model.specs.Basics.{if◌then◌else◌}
+use Rattle.std.specs.Prelude.{Bool, List, ◌≡◌, ℕ, ◌+◌, leb, length, if◌then◌else◌}
 use Rattle.answer.specs.Put.{placed}
 
 abbrev pub has_room : List ℕ → ℕ → Bool

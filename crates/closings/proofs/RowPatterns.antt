@@ -1,5 +1,6 @@
 -- The kept patterns that the rows of a year take: what the code finds by the line's count is what the book finds by the years.
 -- Assumes nothing.
+use Rattle.std.specs.Prelude.{if◌then◌else◌}
 use mathlib.Core.Bool.{Bool, true, false, or-true, or-false}
 use mathlib.Core.List.{List, [], ◌∷◌}
 use mathlib.Core.Path.{◌≡◌, refl, ◌∙◌}
@@ -10,7 +11,6 @@ use lib.Dec.{eqb, ltb}
 use lib.ListN.{length, take, get_or, get_or-map}
 use lib.Seq.{drop-nil, get_or-take}
 use lib.IntN.{ℤ}
-use Rattle.model.specs.Basics.{if◌then◌else◌}
 use Rattle.model.specs.Letter.{ages}
 use Rattle.model.specs.Question.{have_kept}
 use Rattle.model.specs.Row.{rows_of}

@@ -1,7 +1,6 @@
 -- What YEAR's questions ask of the code's line.
 -- Assumes nothing: these are definitions.
-use Rattle.std.specs.Prelude.{Bool, true, false, not, List, ◌≡◌, ℕ, eqb, ℤ}
-use Rattle.model.specs.Basics.{if◌then◌else◌}
+use Rattle.std.specs.Prelude.{Bool, true, false, not, List, ◌≡◌, ℕ, eqb, ℤ, if◌then◌else◌}
 use Rattle.model.specs.Kind.{is_year}
 use Rattle.model.specs.Letter.{ages}
 use Rattle.model.specs.Call.{close_year}

@@ -1,7 +1,7 @@
 -- The patterns that the rows of a year take, by the code's line. The year is that of the last pattern.
 -- Assumes nothing: these are definitions.
-use Rattle.std.specs.Prelude.{Bool, List, ◌≡◌, ℕ, suc, ◌-◌, ◌<◌, eqb, ltb, length, drop, take, get_or}
-use Rattle.model.specs.Basics.{if◌then◌else◌, all}
+use Rattle.std.specs.Prelude.{Bool, List, ◌≡◌, ℕ, suc, ◌-◌, ◌<◌, eqb, ltb, length, drop, take, get_or, if◌then◌else◌}
+use Rattle.model.specs.Basics.{all}
 use Rattle.model.specs.Letter.{ages}
 use Rattle.model.specs.Row.{gross}
 use Rattle.reserve.specs.Lists.{stated_rows}

@@ -1,5 +1,6 @@
 -- The fields of a line, one after the other.
 -- Assumes nothing.
+use Rattle.std.specs.Prelude.{if◌then◌else◌}
 use mathlib.Core.Bool.{Bool, true, false}
 use mathlib.Core.Path.{◌≡◌, refl, sym, ap, ◌∙◌}
 use mathlib.Core.List.{List, [], ◌∷◌}
@@ -9,7 +10,6 @@ use borrow.Author.Tests.{ne_eqb}
 use lib.Dec.{eqb}
 use lib.ListN.{length, take, drop, get_or, drop_of_length-le, length-drop}
 use lib.Seq.{drop-drop, take_all}
-use Rattle.model.specs.Basics.{if◌then◌else◌}
 use Rattle.model.specs.Input.{push}
 use Rattle.model.specs.Field.{fields, field}
 use Rattle.model.proofs.Lists.{drop_next}
@@ -95,7 +95,7 @@ split : (s : List ℕ) → 1 < length (fields s) → Parted s
 split [] h = absurd (omega (arith, ap length fields_nil))
 split (b ∷ bs) h = split_by b bs (eqb b 9) refl h (split bs)
 
-before_by : (b : ℕ) (p bs : List ℕ) (t : Bool) → length p ≤ length bs → length (if t then [] else b ∷ p) ≤ suc (length bs)
+before_by : (b : ℕ) (p bs : List ℕ) (t : Bool) → length p ≤ length bs → length (if t then [] else (b ∷ p)) ≤ suc (length bs)
 before_by b p bs true h = omega arith
 before_by b p bs false h = omega arith
 

@@ -1,5 +1,6 @@
 -- The loop over bytes: the first tab.
 -- Assumes nothing.
+use Rattle.std.specs.Prelude.{if◌then◌else◌}
 use mathlib.Core.Bool.{Bool, true, false}
 use mathlib.Core.Path.{◌≡◌, refl, ◌∙◌}
 use mathlib.Core.List.{List, [], ◌∷◌, ◌++◌, append-nil}
@@ -10,7 +11,6 @@ use borrow.Author.Tests.{ne_eqb}
 use lib.Dec.{eqb}
 use lib.ListN.{length, take, drop, get_or, drop_of_length-le}
 use lib.Seq.{take-suc, take_all, append_snoc}
-use Rattle.model.specs.Basics.{if◌then◌else◌}
 use Rattle.model.specs.Input.{push}
 use Rattle.model.specs.Field.{fields, field}
 use Rattle.model.proofs.Lists.{drop_next}
@@ -18,14 +18,14 @@ use Rattle.model.proofs.Lists.{drop_next}
 -- the part before the first tab
 abbrev pub before : List ℕ → List ℕ
 before [] = []
-before (b ∷ bs) = if eqb b 9 then [] else b ∷ before bs
+before (b ∷ bs) = if eqb b 9 then [] else (b ∷ before bs)
 
 -- the first field is that part
 push_first : (b : ℕ) (fs : List (List ℕ)) → field 0 (push b fs) ≡ b ∷ field 0 fs
 push_first b [] = refl
 push_first b (f ∷ fs) = refl
 
-first_by : (b : ℕ) (fs : List (List ℕ)) (p : List ℕ) (t : Bool) → field 0 fs ≡ p → field 0 (if t then [] ∷ fs else push b fs) ≡ (if t then [] else b ∷ p)
+first_by : (b : ℕ) (fs : List (List ℕ)) (p : List ℕ) (t : Bool) → field 0 fs ≡ p → field 0 (if t then [] ∷ fs else push b fs) ≡ (if t then [] else (b ∷ p))
 first_by b fs p true e = refl
 first_by b fs p false e = rw (push_first b fs, e)
 

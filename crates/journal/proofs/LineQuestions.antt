@@ -1,11 +1,11 @@
 -- A record's bytes: questions 1 to 5 by the reader, and then those of the call with numbers.
 -- Assumes nothing.
+use Rattle.std.specs.Prelude.{if◌then◌else◌}
 use mathlib.Core.Bool.{Bool, true, false}
 use mathlib.Core.List.{List, [], ◌∷◌, ◌++◌}
 use mathlib.Core.Path.{◌≡◌, refl, sym, ap, ◌∙◌}
 use mathlib.Core.Option.{Option, none, some}
 use Prim.Native.Nat.{ℕ}
-use Rattle.model.specs.Basics.{if◌then◌else◌}
 use Rattle.model.specs.Book as model
 use Rattle.model.specs.Call.{Call}
 use Rattle.model.specs.Question.{line_questions, call_questions, book_questions, first_no}

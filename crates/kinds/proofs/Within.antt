@@ -1,11 +1,11 @@
 -- A number that a constructor is given, by the variant that it chose: within its limits, or not.
 -- Assumes nothing.
+use Rattle.std.specs.Prelude.{if◌then◌else◌}
 use mathlib.Core.Bool.{Bool, true, false}
 use mathlib.Core.Path.{◌≡◌, refl}
 use Prim.Native.Nat.{ℕ}
 use native.Mathlib.Omega.{arith}
 use borrow.Author.Tests.{leb-true}
-use Rattle.model.specs.Basics.{if◌then◌else◌}
 use Rattle.model.specs.Kind.{is_rate, is_year, is_register_year, is_month}
 use Rattle.kinds.specs.Factor.{is_factor, maybe_factor, factor_number}
 use Rattle.kinds.specs.Rate.{maybe_rate, rate_number}

@@ -1,7 +1,6 @@
 -- "Factors are kept in units of the tenth decimal, so 1 is 10,000,000,000."
 -- Assumes nothing: these are definitions.
-use Rattle.std.specs.Prelude.{Bool, ℕ, min, leb}
-use Rattle.model.specs.Basics.{if◌then◌else◌}
+use Rattle.std.specs.Prelude.{Bool, ℕ, min, leb, if◌then◌else◌}
 use Rattle.kinds.specs.declared.factor.Factor.{Factor}
 use Rattle.kinds.specs.declared.factor.MaybeFactor.{MaybeFactor}
 use Rattle.kinds.specs.declared.factor.MaybeFactor.TheVariants.{Within, Outside}

@@ -1,7 +1,6 @@
 -- F-4: "month (1 to 12)"
 -- Assumes nothing: these are definitions.
-use Rattle.std.specs.Prelude.{ℕ}
-use Rattle.model.specs.Basics.{if◌then◌else◌}
+use Rattle.std.specs.Prelude.{ℕ, if◌then◌else◌}
 use Rattle.model.specs.Kind.{is_month}
 use Rattle.kinds.specs.declared.month.MaybeMonth.{MaybeMonth}
 use Rattle.kinds.specs.declared.month.MaybeMonth.TheVariants.{Within, Outside}

@@ -1,7 +1,6 @@
 -- "A rate is a whole number of hundredths of a percent, 0 to 2500."
 -- Assumes nothing: these are definitions.
-use Rattle.std.specs.Prelude.{ℕ, min}
-use Rattle.model.specs.Basics.{if◌then◌else◌}
+use Rattle.std.specs.Prelude.{ℕ, min, if◌then◌else◌}
 use Rattle.model.specs.Kind.{is_rate}
 use Rattle.kinds.specs.declared.rate.Rate.{Rate}
 use Rattle.kinds.specs.declared.rate.MaybeRate.{MaybeRate}

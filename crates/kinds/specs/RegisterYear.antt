@@ -1,7 +1,6 @@
 -- F-4: "A record MIDT with year (1980 to 2099)"
 -- Assumes nothing: these are definitions.
-use Rattle.std.specs.Prelude.{ℕ}
-use Rattle.model.specs.Basics.{if◌then◌else◌}
+use Rattle.std.specs.Prelude.{ℕ, if◌then◌else◌}
 use Rattle.model.specs.Kind.{is_register_year}
 use Rattle.kinds.specs.declared.register_year.MaybeRegisterYear.{MaybeRegisterYear}
 use Rattle.kinds.specs.declared.register_year.MaybeRegisterYear.TheVariants.{Within, Outside}

@@ -1,7 +1,6 @@
 -- "Years are 1987 to 2099."
 -- Assumes nothing: these are definitions.
-use Rattle.std.specs.Prelude.{ℕ, min, max}
-use Rattle.model.specs.Basics.{if◌then◌else◌}
+use Rattle.std.specs.Prelude.{ℕ, min, max, if◌then◌else◌}
 use Rattle.model.specs.Kind.{is_year}
 use Rattle.kinds.specs.declared.year.Year.{Year}
 use Rattle.kinds.specs.declared.year.MaybeYear.{MaybeYear}

@@ -1,12 +1,12 @@
 -- Two words of question 10, as tests in code.
 -- Assumes nothing.
+use Rattle.std.specs.Prelude.{if◌then◌else◌}
 use mathlib.Core.Bool.{Bool, true, false, ◌&&◌}
 use mathlib.Core.Path.{◌≡◌, refl}
 use Prim.Native.Nat.{ℕ, suc}
 use native.Mathlib.Omega.{arith}
 use borrow.Author.Tests.{ne_eqb}
 use lib.Dec.{eqb}
-use Rattle.model.specs.Basics.{if◌then◌else◌}
 
 pub both : (a b : Bool) → (a && b) ≡ (if a then b else false)
 both true b = refl

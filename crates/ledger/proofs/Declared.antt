@@ -1,5 +1,6 @@
 -- LINE.
 -- Assumes nothing.
+use Rattle.std.specs.Prelude.{if◌then◌else◌}
 use mathlib.Core.Bool.{Bool, true, false}
 use mathlib.Core.List.{List}
 use mathlib.Core.Path.{◌≡◌, refl, sym, ◌∙◌}
@@ -7,7 +8,6 @@ use mathlib.Core.Option.{none, some}
 use Prim.Native.Nat.{ℕ}
 use borrow.Author.Tests.{leb-true}
 use lib.ListN.{length}
-use Rattle.model.specs.Basics.{if◌then◌else◌}
 use Rattle.model.specs.Kind.{is_opening}
 use Rattle.model.specs.Letter.{covered}
 use Rattle.model.specs.Call.{declare}

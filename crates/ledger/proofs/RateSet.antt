@@ -1,5 +1,6 @@
 -- RATE: what the mean of its months says of questions 4 and 6, and question 7.
 -- Assumes nothing.
+use Rattle.std.specs.Prelude.{if◌then◌else◌}
 use mathlib.Core.Bool.{Bool, true, false, ◌&&◌}
 use mathlib.Core.List.{List, [], ◌∷◌}
 use mathlib.Core.Path.{◌≡◌, refl, sym, ap, ◌∙◌}
@@ -9,7 +10,7 @@ use native.Mathlib.Omega.{arith}
 use borrow.Author.Tests.{eqb-true}
 use lib.Dec.{eqb}
 use lib.ListN.{length}
-use Rattle.model.specs.Basics.{if◌then◌else◌, given, all}
+use Rattle.model.specs.Basics.{given, all}
 use Rattle.model.specs.Kind.{is_rate, is_year}
 use Rattle.model.specs.HalfYear.{half_year}
 use Rattle.model.specs.Rate.{rate_of}

@@ -1,5 +1,6 @@
 -- The letters by their ranges and by document 01's lists: two tests that agree on every byte, by one test that is computed.
 -- Assumes nothing.
+use Rattle.std.specs.Prelude.{if◌then◌else◌}
 use mathlib.Core.Path.{◌≡◌, refl}
 use mathlib.Core.Bool.{Bool, true, false, ◌&&◌}
 use mathlib.Core.Logic.{⊎_elim}
@@ -8,7 +9,6 @@ use native.Mathlib.Omega.{arith}
 use native.Mathlib.Nat.{eq-or-lt_of_le, le_of_suc-le-suc}
 use borrow.Author.Tests.{ne_eqb, lt-ltb, le-ltb, le-leb, lt-leb}
 use lib.Dec.{eqb, leb, ltb}
-use Rattle.model.specs.Basics.{if◌then◌else◌}
 use Rattle.model.proofs.Lists.{and_left, and_right}
 use Rattle.model.specs.Letter.{ten_year, two_year, covered}
 

@@ -1,5 +1,6 @@
 -- The first byte 10 of some bytes.
 -- Assumes nothing.
+use Rattle.std.specs.Prelude.{if◌then◌else◌}
 use mathlib.Core.Bool.{Bool, true, false}
 use mathlib.Core.List.{List, [], ◌∷◌, ◌++◌}
 use mathlib.Core.Path.{◌≡◌, refl}
@@ -10,7 +11,7 @@ use lib.Dec.{eqb}
 use lib.ListN.{length, take, drop, get_or, length-take}
 use lib.Seq.{drop-length}
 use Rattle.line_end.specs.Index.{index_of}
-use Rattle.model.specs.Basics.{if◌then◌else◌, among}
+use Rattle.model.specs.Basics.{among}
 use Rattle.model.proofs.Lists.{drop_next}
 use Rattle.line_end.proofs.Blocks.{among_by}
 

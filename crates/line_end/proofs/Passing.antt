@@ -1,5 +1,6 @@
 -- The search for a byte 10: the blocks that are passed, and the one that the line ends in.
 -- Assumes nothing.
+use Rattle.std.specs.Prelude.{if◌then◌else◌}
 use mathlib.Core.Bool.{Bool, true, false}
 use mathlib.Core.List.{List, ◌++◌}
 use mathlib.Core.Path.{◌≡◌, sym, ap, ◌∙◌}
@@ -8,7 +9,7 @@ use native.Mathlib.Omega.{arith}
 use lib.ListN.{length, take, drop, length-take, length-drop, drop_of_length-le, take-append-drop}
 use lib.Seq.{drop-drop, take_all}
 use Rattle.line_end.specs.Index.{index_of}
-use Rattle.model.specs.Basics.{if◌then◌else◌, among}
+use Rattle.model.specs.Basics.{among}
 use Rattle.line_end.specs.Scan.{EndsAt, EndsIn}
 use Rattle.line_end.proofs.First.{index_none, first_within, index_joined}
 

@@ -1,7 +1,6 @@
 -- Where a byte stands.
 -- Assumes nothing: these are definitions.
-use Rattle.std.specs.Prelude.{ℕ, suc, List, [], ◌∷◌, eqb}
-use Rattle.model.specs.Basics.{if◌then◌else◌}
+use Rattle.std.specs.Prelude.{ℕ, suc, List, [], ◌∷◌, eqb, if◌then◌else◌}
 
 -- the place of the first byte that is `byte`, or the number of bytes where none is
 unfoldable pub index_of : ℕ → List ℕ → ℕ

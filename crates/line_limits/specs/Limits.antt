@@ -1,7 +1,6 @@
 -- The figures of a line, each read through its limit.
 -- Assumes nothing: these are definitions.
-use Rattle.std.specs.Prelude.{◌&&◌, ℕ, min, leb, ltb}
-use Rattle.model.specs.Basics.{if◌then◌else◌}
+use Rattle.std.specs.Prelude.{◌&&◌, ℕ, min, leb, ltb, if◌then◌else◌}
 use Rattle.model.specs.Kind.{is_year}
 use Rattle.model.specs.Letter.{ages}
 use Rattle.line_limits.specs.declared.line.Line.{Line}

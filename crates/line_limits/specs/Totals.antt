@@ -1,7 +1,6 @@
 -- The totals of a line in three cells, each read through its limit: the count of closed years, all paid, all losses.
 -- Assumes nothing: these are definitions.
-use Rattle.std.specs.Prelude.{List, [], ◌∷◌, ℕ, ◌+◌, ◌-◌, ◌*◌, ◌≤◌, min, ℤ, pos, negsuc, nat_abs, ◌+ℤ◌, ◌-ℤ◌, get_or}
-use Rattle.model.specs.Basics.{if◌then◌else◌}
+use Rattle.std.specs.Prelude.{List, [], ◌∷◌, ℕ, ◌+◌, ◌-◌, ◌*◌, ◌≤◌, min, ℤ, pos, negsuc, nat_abs, ◌+ℤ◌, ◌-ℤ◌, get_or, if◌then◌else◌}
 use Rattle.model.specs.Kind.{is_year}
 use Rattle.model.specs.Book as model
 use Rattle.model.specs.Step.{with_year}

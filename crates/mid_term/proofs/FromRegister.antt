@@ -1,5 +1,6 @@
 -- RATE with a year alone.
 -- Assumes nothing.
+use Rattle.std.specs.Prelude.{if◌then◌else◌}
 use mathlib.Core.Bool.{Bool, true, false, ◌&&◌, false≢true}
 use mathlib.Core.List.{List}
 use mathlib.Core.Option.{Option, none, some}
@@ -7,7 +8,7 @@ use mathlib.Core.Path.{◌≡◌, refl, sym, ap, ◌∙◌}
 use Prim.Native.Nat.{ℕ}
 use native.Mathlib.Omega.{arith}
 use lib.ListN.{length, replicate}
-use Rattle.model.specs.Basics.{if◌then◌else◌, given, all}
+use Rattle.model.specs.Basics.{given, all}
 use Rattle.model.specs.Kind.{is_rate, is_year}
 use Rattle.model.specs.Rate.{rate_of, sixty_months}
 use Rattle.model.specs.Call.{set_rate_from_register}

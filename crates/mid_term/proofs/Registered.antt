@@ -1,5 +1,6 @@
 -- MIDT.
 -- Assumes nothing.
+use Rattle.std.specs.Prelude.{if◌then◌else◌}
 use mathlib.Core.Bool.{Bool, true, false, ◌&&◌}
 use mathlib.Core.List.{List}
 use mathlib.Core.Option.{Option, none, some}
@@ -7,7 +8,7 @@ use mathlib.Core.Path.{◌≡◌, refl, sym, ap, ◌∙◌}
 use Prim.Native.Nat.{ℕ}
 use native.Mathlib.Omega.{arith}
 use lib.ListN.{length}
-use Rattle.model.specs.Basics.{if◌then◌else◌, given}
+use Rattle.model.specs.Basics.{given}
 use Rattle.model.specs.Kind.{is_rate}
 use Rattle.model.specs.Call.{register_month}
 use Rattle.model.specs.Question.{is_within_limits, book_questions, first_no}

@@ -1,5 +1,6 @@
 -- An accepted MIDT leaves the invariant standing, with its entry added.
 -- Assumes nothing.
+use Rattle.std.specs.Prelude.{if◌then◌else◌}
 use mathlib.Core.Path.{◌≡◌, refl, sym, ap, ◌∙◌}
 use mathlib.Core.Bool.{Bool, true, false, not, ◌&&◌}
 use mathlib.Core.List.{List, [], ◌∷◌, append-nil}
@@ -7,7 +8,7 @@ use mathlib.Core.Option.{none, some}
 use Prim.Native.Nat.{ℕ}
 use borrow.Author.Tests.{eq-eqb, eqb-true}
 use lib.Dec.{eqb}
-use Rattle.model.specs.Basics.{if◌then◌else◌, given, all, put}
+use Rattle.model.specs.Basics.{given, all, put}
 use Rattle.model.specs.Kind.{is_rate}
 use Rattle.model.specs.Book.{Book}
 use Rattle.model.specs.Call.{register_month}

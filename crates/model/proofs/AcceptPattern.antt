@@ -1,5 +1,6 @@
 -- An accepted PATT leaves the invariant standing, with its entry added.
 -- Assumes nothing.
+use Rattle.std.specs.Prelude.{if◌then◌else◌}
 use mathlib.Core.Path.{◌≡◌, refl, sym, ap, ◌∙◌}
 use mathlib.Core.Bool.{Bool, true, false, ◌&&◌}
 use mathlib.Core.List.{List, [], ◌∷◌, ◌++◌, map, reverse, reverse-append, append-nil}
@@ -10,7 +11,7 @@ use borrow.Author.Tests.{eq-eqb, eqb-true}
 use lib.Dec.{eqb}
 use lib.ListN.{length, take}
 use lib.IntN.{+ℤ_idr}
-use Rattle.model.specs.Basics.{if◌then◌else◌, given, or_default, Every}
+use Rattle.model.specs.Basics.{given, or_default, Every}
 use Rattle.model.specs.Letter.{ages}
 use Rattle.model.specs.Published.{published}
 use Rattle.model.specs.Pattern.{ages_of}

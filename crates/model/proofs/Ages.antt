@@ -1,5 +1,6 @@
 -- How many payments a pattern has, and that its factors are near, age by age.
 -- Assumes nothing.
+use Rattle.std.specs.Prelude.{if◌then◌else◌}
 use mathlib.Core.Path.{◌≡◌, refl, ap, ◌∙◌}
 use mathlib.Core.Bool.{Bool, true, false}
 use mathlib.Core.List.{List, [], ◌∷◌, map}
@@ -8,7 +9,7 @@ use native.Mathlib.Omega.{arith, by_contra}
 use native.Mathlib.Nat.{not-suc-le-zero}
 use lib.ListN.{length, drop, get_or, length-append, length-take, length-drop, length-map, drop_of_length-le}
 use lib.Seq.{get_or-take}
-use Rattle.model.specs.Basics.{if◌then◌else◌, last_or}
+use Rattle.model.specs.Basics.{last_or}
 use Rattle.model.specs.Letter.{ages, ten_year}
 use Rattle.model.specs.HalfYear.{half_year}
 use Rattle.model.specs.Pattern.{Age, ages_of, cumulative, payments, whole}

@@ -1,5 +1,6 @@
 -- The terms of demand 3 with one accepted record more.
 -- Assumes nothing.
+use Rattle.std.specs.Prelude.{if◌then◌else◌}
 use mathlib.Core.Path.{◌≡◌, refl, sym, ap}
 use mathlib.Core.List.{List, [], ◌∷◌, ◌++◌, map, append_assoc, append-nil}
 use mathlib.Core.Logic.{⊎_elim}
@@ -9,7 +10,7 @@ use native.Mathlib.Nat.{eq-zero-or-pos}
 use lib.Dec.{eqb}
 use lib.IntN.{ℤ, ◌+ℤ◌, +ℤ_assoc, +ℤ_idl, +ℤ_idr}
 use mathlib.Core.Path.{◌∙◌}
-use Rattle.model.specs.Basics.{if◌then◌else◌, total, joined, Every}
+use Rattle.model.specs.Basics.{total, joined, Every}
 use Rattle.model.specs.Rate.{rate_of, sixty_months}
 use Rattle.model.specs.Row.{Row, rows_of, gross}
 use Rattle.model.specs.Book.{Book, Line, Kept}

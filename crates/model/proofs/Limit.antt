@@ -1,5 +1,6 @@
 -- F-3: with any limit of 418 bytes or more the same lines are accepted, and only the number of a longer line's refusal differs.
 -- Assumes nothing.
+use Rattle.std.specs.Prelude.{if◌then◌else◌}
 use mathlib.Core.Path.{◌≡◌, refl, sym, ap, ◌∙◌}
 use mathlib.Core.Bool.{Bool, true, false}
 use mathlib.Core.List.{List, [], ◌∷◌, ◌++◌}
@@ -11,7 +12,7 @@ use native.Mathlib.Nat.{eq-zero-or-pos}
 use borrow.Author.Tests.{le-leb, lt-leb, ltb-true}
 use lib.Dec.{ltb}
 use lib.ListN.{length, drop}
-use Rattle.model.specs.Basics.{if◌then◌else◌, given, all}
+use Rattle.model.specs.Basics.{given, all}
 use Rattle.model.specs.Book.{Book}
 use Rattle.model.specs.Call.{Call}
 use Rattle.model.specs.Question.{longest, line_questions, book_questions, first_no}

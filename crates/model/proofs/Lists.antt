@@ -1,5 +1,6 @@
 -- Facts on lists, options and tests that no kit library has.
 -- Assumes nothing.
+use Rattle.std.specs.Prelude.{if◌then◌else◌}
 use mathlib.Core.Path.{◌≡◌, refl, sym, ap}
 use mathlib.Core.Bool.{Bool, true, false, ◌&&◌, not}
 use mathlib.Core.List.{List, [], ◌∷◌, ◌++◌}
@@ -11,7 +12,7 @@ use lib.Dec.{eqb}
 use native.Mathlib.Numerals.{add-one}
 use lib.ListN.{length, take, drop, get_or, take-append-drop}
 use lib.Seq.{take-take, drop-cons}
-use Rattle.model.specs.Basics.{if◌then◌else◌, given, put, all, sum, Every, EveryAt}
+use Rattle.model.specs.Basics.{given, put, all, sum, Every, EveryAt}
 use Rattle.model.specs.Question.{first_no}
 
 pub some≢none : {A : Type 0} (a : A) → some a ≡ none → ⊥

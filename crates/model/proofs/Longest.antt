@@ -1,5 +1,6 @@
 -- "No accepted record can have more than 418 bytes": what questions 2 to 6 ask of a line's fields says how long it is at most.
 -- Assumes nothing.
+use Rattle.std.specs.Prelude.{if◌then◌else◌}
 use mathlib.Core.Path.{◌≡◌, refl, sym, ◌∙◌}
 use mathlib.Core.Bool.{Bool, true, false, ◌&&◌}
 use mathlib.Core.List.{List, [], ◌∷◌, map}
@@ -10,7 +11,7 @@ use native.Mathlib.Nat.{mul-le-mul_right}
 use borrow.Author.Tests.{eqb-true, eq-eqb, ne_eqb}
 use lib.ListN.{length, drop, length-drop}
 use lib.Seq.{get_or-drop}
-use Rattle.model.specs.Basics.{if◌then◌else◌, all}
+use Rattle.model.specs.Basics.{all}
 use Rattle.model.specs.Letter.{ten_year, ages}
 use Rattle.model.specs.Field.{fields, field, column, letter_in}
 use Rattle.model.specs.Number.{natural, is_written, integer}

@@ -1,5 +1,6 @@
 -- The rows of a YEAR that is accepted: each is near, by the entries before it.
 -- Assumes nothing.
+use Rattle.std.specs.Prelude.{if◌then◌else◌}
 use mathlib.Core.Path.{◌≡◌, refl, sym, ap, ◌∙◌, subst}
 use mathlib.Core.Bool.{Bool, true, false, ◌||◌}
 use mathlib.Core.List.{List, [], ◌∷◌}
@@ -11,7 +12,7 @@ use native.Mathlib.Nat.{eq-zero-or-pos}
 use borrow.Author.Tests.{ne_eqb, eqb-true, lt-ltb, le-ltb}
 use lib.Dec.{eqb, ltb}
 use lib.ListN.{take, get_or}
-use Rattle.model.specs.Basics.{if◌then◌else◌, given, Every, EveryAt}
+use Rattle.model.specs.Basics.{given, Every, EveryAt}
 use Rattle.model.specs.Letter.{ages}
 use Rattle.model.specs.Published.{published}
 use Rattle.model.specs.Exact.{Fraction, exact_composite, composite_unpaid}

@@ -1,5 +1,6 @@
 -- F-2: the questions that SUM meets; what it prints and changes, whatever the list before it; and document 01's run with a SUM after it, computed.
 -- Assumes nothing.
+use Rattle.std.specs.Prelude.{if◌then◌else◌}
 use mathlib.Core.Bool.{Bool, true, false}
 use mathlib.Core.Path.{◌≡◌, refl}
 use mathlib.Core.List.{List, [], ◌∷◌}
@@ -10,7 +11,7 @@ use borrow.Author.Tests.{eqb-true}
 use lib.Dec.{eqb}
 use lib.ListN.{length, drop, drop_of_length-le}
 use lib.IntN.{pos}
-use Rattle.model.specs.Basics.{if◌then◌else◌, given, bytes}
+use Rattle.model.specs.Basics.{given, bytes}
 use Rattle.model.specs.Letter.{ten_year, two_year, covered, ages}
 use Rattle.model.specs.HalfYear.{with_digits, half_year}
 use Rattle.model.specs.Pattern.{cumulative_ratio}

@@ -1,5 +1,6 @@
 -- The payments of a pattern are of a whole, and "The unpaid at an age is the whole less its cumulative."
 -- Assumes nothing.
+use Rattle.std.specs.Prelude.{if◌then◌else◌}
 use mathlib.Core.Path.{◌≡◌, refl, ap}
 use mathlib.Core.Bool.{Bool, true, false}
 use mathlib.Core.List.{List, [], ◌∷◌, ◌++◌, map}
@@ -9,7 +10,7 @@ use native.Mathlib.Nat.{not-suc-le-zero, div-mul-le_self, lt_of_mul-lt-mul_right
 use borrow.Author.Tests.{leb-true, ltb-true}
 use lib.Dec.{leb, ltb}
 use lib.ListN.{length, take, drop, get_or, take-append-drop}
-use Rattle.model.specs.Basics.{if◌then◌else◌, all, last_or, sum}
+use Rattle.model.specs.Basics.{all, last_or, sum}
 use Rattle.model.specs.Letter.{ten_year}
 use Rattle.model.specs.Pattern.{Age, cumulative_ratio, cumulative, payments, whole}
 use Rattle.model.specs.Tail.{capped, tail_cap, ten_year_tail, two_year_tail, payment_at, schedule}

@@ -1,5 +1,6 @@
 -- How many bytes a field can have: a word, a letter, or a well-written number within its limits.
 -- Assumes nothing.
+use Rattle.std.specs.Prelude.{if◌then◌else◌}
 use mathlib.Core.Path.{◌≡◌, refl, sym}
 use mathlib.Core.Bool.{Bool, true, false, not, ◌&&◌}
 use mathlib.Core.List.{List, [], ◌∷◌}
@@ -10,7 +11,7 @@ use borrow.Author.Tests.{leb-true, eqb-false, not-true}
 use lib.Dec.{eqb, leb}
 use lib.ListN.{length}
 use lib.IntN.{pos, nat_abs, neg_ℤ}
-use Rattle.model.specs.Basics.{if◌then◌else◌, same, all, bytes}
+use Rattle.model.specs.Basics.{same, all, bytes}
 use Rattle.model.specs.Letter.{ten_year, two_year, covered}
 use Rattle.model.specs.Field.{only_byte}
 use Rattle.model.specs.Number.{is_digit, onward, natural, is_plain, minus, is_written, integer}

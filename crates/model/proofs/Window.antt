@@ -1,5 +1,6 @@
 -- F-4: the sixty months that RATE with a year alone takes follow each other, and MIDT may give each of them.
 -- Assumes nothing.
+use Rattle.std.specs.Prelude.{if◌then◌else◌}
 use mathlib.Core.Bool.{true, ◌&&◌}
 use mathlib.Core.Path.{◌≡◌, refl}
 use mathlib.Core.List.{List, [], ◌∷◌}
@@ -8,7 +9,7 @@ use native.Mathlib.Omega.{arith}
 use borrow.Author.Tests.{leb-true, le-leb}
 use lib.Dec.{eqb, leb}
 use lib.ListN.{drop}
-use Rattle.model.specs.Basics.{if◌then◌else◌, all}
+use Rattle.model.specs.Basics.{all}
 use Rattle.model.specs.Kind.{is_year, is_register_year, is_month}
 use Rattle.model.proofs.Lists.{and_left, and_right}
 use Rattle.model.proofs.Months.{dates}

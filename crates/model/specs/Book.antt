@@ -1,8 +1,7 @@
 -- The book: what document 01 has it hold.
 -- Assumes nothing: these are definitions.
-use Rattle.std.specs.Prelude.{List, [], ◌∷◌, ℕ, eqb, ℤ, pos}
+use Rattle.std.specs.Prelude.{List, [], ◌∷◌, ℕ, eqb, ℤ, pos, if◌then◌else◌}
 use Rattle.std.proofs.Math.Option.{Option, none, some}
-use Rattle.model.specs.Basics.{if◌then◌else◌}
 
 -- a kept pattern: its accident year, its kept factors from age 1 on, its composite
 pub record Kept : Type 0 where

@@ -1,9 +1,9 @@
 -- Demand 3 of document 01: "a single claim about the whole list, not one for each record"; and F-2's totals and F-4's register, over the same list.
 -- Throughout, h is the accepted records of the list, in order, and age k + 1 is at place k.
 -- Assumes nothing: these are definitions.
-use Rattle.std.specs.Prelude.{◌≡◌, List, [], ◌∷◌, map, reverse, ℕ, suc, ◌+◌, ◌-◌, ◌<◌, ltb, length, take, drop, get_or, pos, ◌+ℤ◌, ◌-ℤ◌}
+use Rattle.std.specs.Prelude.{◌≡◌, List, [], ◌∷◌, map, reverse, ℕ, suc, ◌+◌, ◌-◌, ◌<◌, ltb, length, take, drop, get_or, pos, ◌+ℤ◌, ◌-ℤ◌, if◌then◌else◌}
 use Rattle.std.proofs.Math.Option.{none, some}
-use Rattle.model.specs.Basics.{if◌then◌else◌, sum, Every, EveryAt}
+use Rattle.model.specs.Basics.{sum, Every, EveryAt}
 use Rattle.model.specs.Letter.{ages}
 use Rattle.model.specs.Rate.{rate_of, sixty_months}
 use Rattle.model.specs.HalfYear.{half_year}

@@ -1,8 +1,8 @@
 -- Document 01, "The list of demand 3": the accepted records of a list, and the terms that come from them.
 -- Assumes nothing: these are definitions.
-use Rattle.std.specs.Prelude.{◌&&◌, List, [], ◌∷◌, ◌++◌, ℕ, eqb, ℤ, pos}
+use Rattle.std.specs.Prelude.{◌&&◌, List, [], ◌∷◌, ◌++◌, ℕ, eqb, ℤ, pos, if◌then◌else◌}
 use Rattle.std.proofs.Math.Option.{Option, none, some}
-use Rattle.model.specs.Basics.{if◌then◌else◌, total, joined}
+use Rattle.model.specs.Basics.{total, joined}
 use Rattle.model.specs.Rate.{rate_of, sixty_months}
 use Rattle.model.specs.Pattern.{ages_of}
 use Rattle.model.specs.Tail.{schedule}

@@ -1,8 +1,8 @@
 -- Document 01, "Questions put to a record, in this order", and F-4's question 14. Each definition is a question, under its own words; the tables are below them.
 -- Assumes nothing: these are definitions.
-use Rattle.std.specs.Prelude.{Bool, true, false, not, ◌&&◌, ◌||◌, List, [], ◌∷◌, map, ◌≡◌, ℕ, suc, ◌-◌, eqb, leb, ltb, length, take, drop}
+use Rattle.std.specs.Prelude.{Bool, true, false, not, ◌&&◌, ◌||◌, List, [], ◌∷◌, map, ◌≡◌, ℕ, suc, ◌-◌, eqb, leb, ltb, length, take, drop, if◌then◌else◌}
 use Rattle.std.proofs.Math.Option.{Option, none, some}
-use Rattle.model.specs.Basics.{if◌then◌else◌, given, all}
+use Rattle.model.specs.Basics.{given, all}
 use Rattle.model.specs.Kind.{is_rate, is_year, is_register_year, is_month, is_opening, is_amount, is_paid}
 use Rattle.model.specs.Letter.{covered, ages}
 use Rattle.model.specs.Rate.{sixty_months}

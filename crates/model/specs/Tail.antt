@@ -1,7 +1,7 @@
 -- Document 01, "Pattern", its second part: the tails, and the payments at all ages. Document 02, F-1: the cap where the tenth year paid nothing.
 -- Assumes nothing: these are definitions.
-use Rattle.std.specs.Prelude.{List, [], ◌∷◌, ◌++◌, map, ℕ, zero, suc, ◌+◌, ◌-◌, ◌/◌, min, eqb, get_or}
-use Rattle.model.specs.Basics.{if◌then◌else◌, last_or}
+use Rattle.std.specs.Prelude.{List, [], ◌∷◌, ◌++◌, map, ℕ, zero, suc, ◌+◌, ◌-◌, ◌/◌, min, eqb, get_or, if◌then◌else◌}
+use Rattle.model.specs.Basics.{last_or}
 use Rattle.model.specs.Letter.{ten_year}
 use Rattle.model.specs.Pattern.{Age, cumulative, payments, whole}
 

@@ -1,7 +1,6 @@
 -- "Other money is 0 to 10,000,000,000": an amount in thousands of dollars.
 -- Assumes nothing: these are definitions.
-use Rattle.std.specs.Prelude.{ℕ, min}
-use Rattle.model.specs.Basics.{if◌then◌else◌}
+use Rattle.std.specs.Prelude.{ℕ, min, if◌then◌else◌}
 use Rattle.model.specs.Kind.{is_amount}
 use Rattle.money.specs.declared.amount.Amount.{Amount}
 use Rattle.money.specs.declared.amount.MaybeAmount.{MaybeAmount}

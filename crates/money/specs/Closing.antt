@@ -1,7 +1,6 @@
 -- What a year closes or opens with: at most eleven rows of 10,000,000,000.
 -- Assumes nothing: these are definitions.
-use Rattle.std.specs.Prelude.{Bool, ℕ, min, leb}
-use Rattle.model.specs.Basics.{if◌then◌else◌}
+use Rattle.std.specs.Prelude.{Bool, ℕ, min, leb, if◌then◌else◌}
 use Rattle.money.specs.declared.closing.Closing.{Closing}
 use Rattle.money.specs.declared.closing.MaybeClosing.{MaybeClosing}
 use Rattle.money.specs.declared.closing.MaybeClosing.TheVariants.{Within, Outside}

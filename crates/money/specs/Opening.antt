@@ -1,7 +1,6 @@
 -- "LINE, letter, opening (0 to 100,000,000,000).": the opening that a line declares.
 -- Assumes nothing: these are definitions.
-use Rattle.std.specs.Prelude.{ℕ, min}
-use Rattle.model.specs.Basics.{if◌then◌else◌}
+use Rattle.std.specs.Prelude.{ℕ, min, if◌then◌else◌}
 use Rattle.model.specs.Kind.{is_opening}
 use Rattle.money.specs.declared.opening.Opening.{Opening}
 use Rattle.money.specs.declared.opening.MaybeOpening.{MaybeOpening}

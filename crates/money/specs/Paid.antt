@@ -1,7 +1,6 @@
 -- "and paid in YEAR also down to -10,000,000,000."
 -- Assumes nothing: these are definitions.
-use Rattle.std.specs.Prelude.{ℤ}
-use Rattle.model.specs.Basics.{if◌then◌else◌}
+use Rattle.std.specs.Prelude.{ℤ, if◌then◌else◌}
 use Rattle.model.specs.Kind.{is_paid}
 use Rattle.money.specs.declared.paid.MaybePaid.{MaybePaid}
 use Rattle.money.specs.declared.paid.MaybePaid.TheVariants.{Within, Outside}

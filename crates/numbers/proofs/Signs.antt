@@ -1,9 +1,9 @@
 -- A number with its sign.
 -- Assumes nothing.
+use Rattle.std.specs.Prelude.{if◌then◌else◌}
 use Rattle.std.proofs.Common.{◌≡◌, ℕ, suc, ◌+◌, ◌-◌, ◌<◌, ◌≤◌, min, Bool, true, false, not, ◌&&◌, eqb, ltb, List, [], ◌∷◌, length, take, drop, sym, refl, ap, ◌∙◌, arith, lt-ltb, eq-eqb, eqb-true}
 use mathlib.Core.Bool.{false≢true}
 use borrow.Author.Tests.{eqb-false}
-use Rattle.model.specs.Basics.{if◌then◌else◌}
 use Rattle.model.specs.Field.{fields, field}
 use Rattle.model.specs.Number.{natural, is_plain, is_written}
 use Rattle.numbers.specs.Number.{most, capped, has_minus, sign_length, no_number, Found, Reads}

@@ -1,7 +1,6 @@
 -- A number as it is read from the front of the rest of a line: its sign, its size, which stops above every limit, and its length.
 -- Assumes nothing: these are definitions.
-use Rattle.std.specs.Prelude.{◌≡◌, ℕ, ◌+◌, ◌≤◌, min, Bool, true, false, List, [], ◌∷◌, length, drop, ◌==◌, slice_index}
-use Rattle.model.specs.Basics.{if◌then◌else◌}
+use Rattle.std.specs.Prelude.{◌≡◌, ℕ, ◌+◌, ◌≤◌, min, Bool, true, false, List, [], ◌∷◌, length, drop, ◌==◌, slice_index, if◌then◌else◌}
 use Rattle.model.specs.Number.{is_digit, onward, natural, minus, is_written}
 use Rattle.numbers.specs.declared.number.Digits.{Digits}
 use Rattle.numbers.specs.declared.number.Reading.{Reading}

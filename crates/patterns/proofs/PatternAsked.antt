@@ -1,12 +1,13 @@
 -- PATT: its questions, and what an accepted one leaves.
 -- Assumes nothing.
+use Rattle.std.specs.Prelude.{if◌then◌else◌}
 use mathlib.Core.Bool.{Bool, true, false, ◌&&◌}
 use mathlib.Core.List.{List, [], ◌∷◌}
 use mathlib.Core.Path.{◌≡◌, refl, sym, ap, ◌∙◌}
 use mathlib.Core.Option.{Option, none, some}
 use Prim.Native.Nat.{ℕ, ◌<◌}
 use native.Mathlib.Omega.{arith}
-use Rattle.model.specs.Basics.{if◌then◌else◌, given, all}
+use Rattle.model.specs.Basics.{given, all}
 use Rattle.model.specs.Kind.{is_year, is_amount}
 use Rattle.model.specs.Letter.{covered}
 use Rattle.model.specs.Pattern.{Age, ages_of}

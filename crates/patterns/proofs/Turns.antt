@@ -1,5 +1,6 @@
 -- Question 10 of the code's line is that of the line that the view shows.
 -- Assumes nothing.
+use Rattle.std.specs.Prelude.{if◌then◌else◌}
 use mathlib.Core.Bool.{Bool, true, false}
 use mathlib.Core.List.{List}
 use mathlib.Core.Path.{◌≡◌, refl, sym}
@@ -11,7 +12,6 @@ use borrow.Author.Tests.{eq-eqb, ne_eqb, eqb-true, leb-true}
 use mir.Syntax.{w64}
 use mir.Val.{Fits}
 use lib.Dec.{eqb, leb}
-use Rattle.model.specs.Basics.{if◌then◌else◌}
 use Rattle.model.specs.Kind.{is_year}
 use Rattle.model.specs.Book as model
 use Rattle.model.specs.Book.{latest}

@@ -1,8 +1,7 @@
 -- What PATT's questions ask of the code's line.
 -- Assumes nothing: these are definitions.
-use Rattle.std.specs.Prelude.{Bool, true, false, List, ◌≡◌, ℕ, ◌+◌, eqb}
+use Rattle.std.specs.Prelude.{Bool, true, false, List, ◌≡◌, ℕ, ◌+◌, eqb, if◌then◌else◌}
 use Rattle.std.proofs.Math.Option.{some}
-use Rattle.model.specs.Basics.{if◌then◌else◌}
 use Rattle.model.specs.Kind.{is_year}
 use Rattle.model.specs.Call.{add_pattern}
 use Rattle.model.specs.Question.{Sound}

@@ -1,5 +1,6 @@
 -- The questions that a pattern's lists are asked, in order, and the schedule that is left.
 -- Assumes nothing.
+use Rattle.std.specs.Prelude.{if◌then◌else◌}
 use mathlib.Core.Path.{◌≡◌, sym, ◌∙◌}
 use mathlib.Core.Bool.{Bool, true, false}
 use mathlib.Core.List.{List, ◌++◌, map, append-nil}
@@ -8,7 +9,7 @@ use native.Mathlib.Omega.{arith}
 use borrow.Author.Tests.{eq-eqb, ne_eqb}
 use lib.ListN.{length, take, replicate}
 use lib.Seq.{get_or-take}
-use Rattle.model.specs.Basics.{if◌then◌else◌, all, last_or, sum}
+use Rattle.model.specs.Basics.{all, last_or, sum}
 use Rattle.model.specs.Kind.{is_amount}
 use Rattle.model.specs.Letter.{covered, ten_year, ages}
 use Rattle.model.specs.Pattern.{ages_of, cumulative, payments}
@@ -39,7 +40,7 @@ module _ (letter : ℕ) (paid incurred pay : List ℕ) (last : ℕ) (climbs : Bo
   given = payments 0 cumulatives
 
   by_kind : (ten : Bool) → length paid ≡ (if ten then 10 else 2)
-      → (if ten then take 10 pay ++ ten_year_tail (payment_at 8 pay) (payment_at 9 pay) (payment_at 10 pay) (200000000 - 2 * last) else take 2 pay ++ two_year_tail (200000000 - 2 * last))
+      → (if ten then take 10 pay ++ ten_year_tail (payment_at 8 pay) (payment_at 9 pay) (payment_at 10 pay) (200000000 - 2 * last) else (take 2 pay ++ two_year_tail (200000000 - 2 * last)))
       ≡ given ++ (if ten then ten_year_tail (payment_at 8 given) (payment_at 9 given) (payment_at 10 given) (200000000 - last_or 0 cumulatives) else two_year_tail (200000000 - last_or 0 cumulatives))
   by_kind true e =
       let p : take 10 pay ≡ given = rw e at (s.by_age t) in

@@ -1,5 +1,6 @@
 -- For callers: a fine schedule is document 01's of the lists, in its places, and its payments are a whole together.
 -- Assumes nothing.
+use Rattle.std.specs.Prelude.{if◌then◌else◌}
 use mathlib.Core.Path.{◌≡◌, refl, ◌∙◌}
 use mathlib.Core.Bool.{Bool, true, false, ◌&&◌}
 use mathlib.Core.List.{List, [], ◌∷◌, map}
@@ -9,7 +10,7 @@ use borrow.Author.Tests.{eqb-true}
 use lib.Dec.{eqb}
 use lib.ListN.{length, take, replicate, length-append, length-map}
 use lib.Seq.{take_at}
-use Rattle.model.specs.Basics.{if◌then◌else◌, all, last_or, sum}
+use Rattle.model.specs.Basics.{all, last_or, sum}
 use Rattle.model.specs.Kind.{is_amount}
 use Rattle.model.specs.Letter.{covered, ten_year, ages}
 use Rattle.model.specs.Pattern.{Age, ages_of, cumulative, payments, whole}

@@ -1,8 +1,8 @@
 -- What `schedule_of` answers.
 -- Assumes nothing: these are definitions.
-use Rattle.std.specs.Prelude.{◌≡◌, Bool, true, ◌&&◌, List, [], ◌∷◌, ◌++◌, ℕ, ◌-◌, length, take, replicate}
+use Rattle.std.specs.Prelude.{◌≡◌, Bool, true, ◌&&◌, List, [], ◌∷◌, ◌++◌, ℕ, ◌-◌, length, take, replicate, if◌then◌else◌}
 use Rattle.std.proofs.Math.Option.{Option, none, some}
-use Rattle.model.specs.Basics.{if◌then◌else◌, all}
+use Rattle.model.specs.Basics.{all}
 use Rattle.model.specs.Kind.{is_amount}
 use Rattle.model.specs.Letter.{covered, ten_year, ages}
 use Rattle.model.specs.Pattern.{Age, ages_of}
@@ -60,4 +60,4 @@ pub record Listed (letter : ℕ) (paid incurred : List ℕ) : Type 0 where
 -- the payments at the given ages, which stand first, and the tail
 abbrev pub tailed : ℕ → List ℕ → ℕ → List ℕ
 tailed letter pay unpaid =
-    if ten_year letter then take 10 pay ++ ten_year_tail (payment_at 8 pay) (payment_at 9 pay) (payment_at 10 pay) unpaid else take 2 pay ++ two_year_tail unpaid
+    if ten_year letter then take 10 pay ++ ten_year_tail (payment_at 8 pay) (payment_at 9 pay) (payment_at 10 pay) unpaid else (take 2 pay ++ two_year_tail unpaid)

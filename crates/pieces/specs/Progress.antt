@@ -1,7 +1,6 @@
 -- Document 01, "A run of the book's program", byte by byte: how far a run has come, and what the next byte does.
 -- Assumes nothing: these are definitions.
-use Rattle.std.specs.Prelude.{List, [], ◌∷◌, ◌++◌, ℕ, suc, ◌+◌, eqb, leb, length, take}
-use Rattle.model.specs.Basics.{if◌then◌else◌}
+use Rattle.std.specs.Prelude.{List, [], ◌∷◌, ◌++◌, ℕ, suc, ◌+◌, eqb, leb, length, take, if◌then◌else◌}
 use Rattle.model.specs.Book.{Book, empty}
 use Rattle.model.specs.Question.{longest}
 use Rattle.model.specs.Answer.{text}

@@ -1,5 +1,6 @@
 -- For callers: what a request and the lists say of the line that they were read from.
 -- Assumes nothing.
+use Rattle.std.specs.Prelude.{if◌then◌else◌}
 use mathlib.Core.Bool.{Bool, true, false, false≢true}
 use mathlib.Core.Path.{◌≡◌, refl, sym, ◌∙◌}
 use mathlib.Core.List.{List, [], ◌∷◌, map}
@@ -8,7 +9,7 @@ use Prim.Native.Nat.{ℕ, suc, ◌+◌, ◌*◌, ◌≤◌, ◌<◌}
 use native.Mathlib.Omega.{arith}
 use borrow.Author.Tests.{eqb-true}
 use lib.ListN.{length, take, drop, get_or}
-use Rattle.model.specs.Basics.{if◌then◌else◌, given}
+use Rattle.model.specs.Basics.{given}
 use Rattle.model.specs.Letter.{ten_year, ages}
 use Rattle.model.specs.Call.{Call, declare, set_rate, totals, register_month, set_rate_from_register}
 use Rattle.model.specs.Field.{fields, field, letter_in, column}

@@ -1,5 +1,6 @@
 -- The questions one after the other.
 -- Assumes nothing.
+use Rattle.std.specs.Prelude.{if◌then◌else◌}
 use mathlib.Core.Bool.{Bool, true, false, false≢true}
 use mathlib.Core.Path.{◌≡◌, refl, sym, ◌∙◌}
 use mathlib.Core.List.{List, [], ◌∷◌}
@@ -8,7 +9,7 @@ use native.Mathlib.Omega.{arith}
 use borrow.Author.Tests.{eq-eqb, ne_eqb, le-leb, lt-leb, leb-true}
 use lib.Dec.{eqb, leb}
 use lib.ListN.{length, take, drop}
-use Rattle.model.specs.Basics.{if◌then◌else◌, given}
+use Rattle.model.specs.Basics.{given}
 use Rattle.model.specs.Letter.{ten_year, two_year, covered}
 use Rattle.model.specs.Field.{fields, field, letter_in}
 use Rattle.model.specs.Record.{Word, LINE, RATE, RATE_ALONE, PATT, YEAR, SUM, MIDT, OTHER, word_of, form_of, record_of, field_count, first_number, all_written, call_from}

@@ -1,7 +1,6 @@
 -- The questions from each one on, and what the ones before have shown.
 -- Assumes nothing: these are definitions.
-use Rattle.std.specs.Prelude.{Bool, true, ◌≡◌, List, ℕ, ◌≤◌, length}
-use Rattle.model.specs.Basics.{if◌then◌else◌}
+use Rattle.std.specs.Prelude.{Bool, true, ◌≡◌, List, ℕ, ◌≤◌, length, if◌then◌else◌}
 use Rattle.model.specs.Field.{fields, letter_in}
 use Rattle.model.specs.Record.{Word, first_number, call_from}
 use Rattle.model.specs.Question.{has_word, has_letter, has_fields, is_well_written}

@@ -1,8 +1,8 @@
 -- What is read of a line: the request, and the two lists that the caller lent as they are left.
 -- Assumes nothing: these are definitions.
-use Rattle.std.specs.Prelude.{Bool, List, ◌≡◌, ℕ, take}
+use Rattle.std.specs.Prelude.{Bool, List, ◌≡◌, ℕ, take, if◌then◌else◌}
 use Rattle.std.proofs.Math.Option.{Option, none, some}
-use Rattle.model.specs.Basics.{if◌then◌else◌, given}
+use Rattle.model.specs.Basics.{given}
 use Rattle.model.specs.Field.{fields, letter_in}
 use Rattle.model.specs.Record.{Word, LINE, RATE, RATE_ALONE, PATT, YEAR, SUM, MIDT, OTHER, record_of, field_count, first_number}
 use Rattle.model.specs.Question.{line_questions, first_no}

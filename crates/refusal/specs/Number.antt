@@ -1,7 +1,6 @@
 -- "For every case of an enum answer, a definition gives this paper's number and values."
 -- Assumes nothing: these are definitions.
-use Rattle.std.specs.Prelude.{List, [], ◌∷◌, ℕ, eqb}
-use Rattle.model.specs.Basics.{if◌then◌else◌}
+use Rattle.std.specs.Prelude.{List, [], ◌∷◌, ℕ, eqb, if◌then◌else◌}
 use Rattle.refusal.specs.declared.Refusal.{Refusal}
 use Rattle.refusal.specs.declared.Refusal.TheVariants.{TooLong, UnknownWord, UncoveredLetter, WrongCount, BadlyWritten, OutsideLimits, AlreadyGiven, NotDeclared, NoRate, OutOfTurn, IncurredTooSmall, RatioFalls, NoPattern, NoMonth}
 

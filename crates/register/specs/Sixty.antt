@@ -1,7 +1,7 @@
 -- The sixty months of an accident year, as the store has them.
 -- Assumes nothing: these are definitions.
-use Rattle.std.specs.Prelude.{Bool, true, ◌&&◌, List, map, ◌≡◌, ℕ, ◌-◌, length, replicate}
-use Rattle.model.specs.Basics.{if◌then◌else◌, given, or_default, all}
+use Rattle.std.specs.Prelude.{Bool, true, ◌&&◌, List, map, ◌≡◌, ℕ, ◌-◌, length, replicate, if◌then◌else◌}
+use Rattle.model.specs.Basics.{given, or_default, all}
 use Rattle.model.specs.Kind.{is_year}
 use Rattle.model.specs.Rate.{sixty_months}
 use Rattle.state.specs.Store.{piece, size}

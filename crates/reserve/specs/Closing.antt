@@ -1,7 +1,7 @@
 -- "Closing is the sum of discounted rows.", with the kept factors of the rows in a list.
 -- Assumes nothing: these are definitions.
-use Rattle.std.specs.Prelude.{Bool, ◌&&◌, List, [], ◌∷◌, ℕ, suc, length, take, get_or}
-use Rattle.model.specs.Basics.{if◌then◌else◌, all, sum}
+use Rattle.std.specs.Prelude.{Bool, ◌&&◌, List, [], ◌∷◌, ℕ, suc, length, take, get_or, if◌then◌else◌}
+use Rattle.model.specs.Basics.{all, sum}
 use Rattle.model.specs.Kind.{is_amount}
 use Rattle.model.specs.Published.{published}
 use Rattle.model.specs.Row.{Row, discounted, stated}

@@ -1,5 +1,6 @@
 -- Kept factors and composites are at most 1, so that the view reads them as they are.
 -- Assumes nothing.
+use Rattle.std.specs.Prelude.{if◌then◌else◌}
 use mathlib.Core.Bool.{Bool, true, false}
 use mathlib.Core.List.{List, [], ◌∷◌, map}
 use mathlib.Core.Logic.{⊎_elim}
@@ -9,7 +10,6 @@ use native.Mathlib.Omega.{arith}
 use native.Mathlib.Nat.{eq-zero-or-pos, div-le_of_le-mul, mul-le-mul_left}
 use borrow.Author.Tests.{eq-eqb, ne_eqb}
 use lib.ListN.{take, drop}
-use Rattle.model.specs.Basics.{if◌then◌else◌}
 use Rattle.model.specs.Letter.{ages, ten_year}
 use Rattle.model.specs.HalfYear.{half_year}
 use Rattle.model.specs.Pattern.{unpaid}

@@ -1,5 +1,6 @@
 -- A line within its limits: what each of its numbers is then; and which lines are.
 -- Assumes nothing.
+use Rattle.std.specs.Prelude.{if◌then◌else◌}
 use mathlib.Core.Bool.{Bool, true, false, ◌&&◌}
 use mathlib.Core.List.{List}
 use mathlib.Core.Path.{◌≡◌, refl, sym, ap, ◌∙◌}
@@ -7,7 +8,6 @@ use Prim.Native.Nat.{ℕ, ◌+◌, ◌≤◌, ◌<◌, min}
 use native.Mathlib.Omega.{arith}
 use borrow.Author.Tests.{leb-true, ltb-true, le-leb, lt-ltb}
 use lib.Dec.{leb, ltb}
-use Rattle.model.specs.Basics.{if◌then◌else◌}
 use Rattle.model.specs.Kind.{is_year}
 use Rattle.model.specs.Letter.{covered, ages}
 use Rattle.model.proofs.Ages.{ages_positive}

@@ -1,5 +1,6 @@
 -- A month of the register written: it is read back, every other month is as it was, and so are the lines, the slots and the totals.
 -- Assumes nothing.
+use Rattle.std.specs.Prelude.{if◌then◌else◌}
 use mathlib.Core.Bool.{Bool, true, false}
 use mathlib.Core.List.{List, [], ◌∷◌}
 use mathlib.Core.Option.{Option, none, some}
@@ -10,7 +11,7 @@ use borrow.Author.Tests.{eqb-false, leb-true, le-leb, ne_eqb}
 use lib.Dec.{eqb, leb}
 use lib.ListN.{length, get_or, set}
 use lib.Seq.{get_or-set_same, get_or-set_other}
-use Rattle.model.specs.Basics.{if◌then◌else◌, put, all}
+use Rattle.model.specs.Basics.{put, all}
 use Rattle.model.specs.Kind.{is_rate, is_register_year, is_month}
 use Rattle.model.specs.History.{listed}
 use Rattle.model.proofs.Lists.{and_left, and_right, put_all}

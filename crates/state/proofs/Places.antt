@@ -1,5 +1,6 @@
 -- The places of the covered letters: fifteen, and no two letters have the same one.
 -- Assumes nothing.
+use Rattle.std.specs.Prelude.{if◌then◌else◌}
 use mathlib.Core.Path.{◌≡◌, refl, sym, ap, ◌∙◌}
 use mathlib.Core.Bool.{Bool, true, false, ◌||◌, false≢true}
 use mathlib.Core.List.{List, [], ◌∷◌}
@@ -7,7 +8,7 @@ use Prim.Native.Nat.{ℕ, ◌+◌, ◌-◌, ◌≤◌, ◌<◌}
 use native.Mathlib.Omega.{arith}
 use borrow.Author.Tests.{leb-true, ltb-true, eqb-true, le-leb, lt-leb}
 use lib.Dec.{eqb, leb, ltb}
-use Rattle.model.specs.Basics.{if◌then◌else◌, all, among, bytes}
+use Rattle.model.specs.Basics.{all, among, bytes}
 use Rattle.model.specs.Letter.{ten_year, two_year, covered}
 use Rattle.model.proofs.Lists.{and_left, and_right}
 use Rattle.state.specs.Lines.{place_of}

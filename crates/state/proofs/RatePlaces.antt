@@ -1,5 +1,6 @@
 -- The rate places: where a year stands, and that a store into a place is the model's `put`.
 -- Assumes nothing.
+use Rattle.std.specs.Prelude.{if◌then◌else◌}
 use mathlib.Core.Path.{◌≡◌, refl, sym, ◌∙◌, fun_ext}
 use mathlib.Core.Bool.{Bool, true, false, false≢true}
 use mathlib.Core.List.{List}
@@ -12,7 +13,7 @@ use lib.ListN.{length, get_or, set}
 use lib.Seq.{get_or-set_same, get_or-set_other}
 use mir.Syntax.{w64}
 use mir.Val.{Fits}
-use Rattle.model.specs.Basics.{if◌then◌else◌, put}
+use Rattle.model.specs.Basics.{put}
 use Rattle.model.specs.Kind.{is_year}
 use Rattle.model.proofs.Lists.{and_left, and_right}
 use Rattle.state.specs.Rates.{rate_in, rates_of}

@@ -1,5 +1,6 @@
 -- What the view shows after a write.
 -- Assumes nothing.
+use Rattle.std.specs.Prelude.{if◌then◌else◌}
 use mathlib.Core.Bool.{Bool, true, false}
 use mathlib.Core.List.{List}
 use mathlib.Core.Option.{none, some}
@@ -7,7 +8,7 @@ use mathlib.Core.Path.{◌≡◌, refl, ap, ◌∙◌, fun_ext}
 use Prim.Native.Nat.{ℕ, zero, suc, ◌-◌, ◌≤◌}
 use borrow.Author.Tests.{eqb-false}
 use lib.ListN.{length}
-use Rattle.model.specs.Basics.{if◌then◌else◌, given, put}
+use Rattle.model.specs.Basics.{given, put}
 use Rattle.model.specs.Kind.{is_year}
 use Rattle.model.specs.Letter.{covered}
 use Rattle.model.proofs.Lists.{put_all}

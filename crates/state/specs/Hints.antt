@@ -1,7 +1,6 @@
 -- The half-year factors that are kept as hints, one for each year from 1987 to 2099. The view does not read them.
 -- Assumes nothing: these are definitions.
-use Rattle.std.specs.Prelude.{List, [], ◌∷◌, ℕ, ◌+◌, ◌-◌, get_or}
-use Rattle.model.specs.Basics.{if◌then◌else◌}
+use Rattle.std.specs.Prelude.{List, [], ◌∷◌, ℕ, ◌+◌, ◌-◌, get_or, if◌then◌else◌}
 use Rattle.model.specs.Kind.{is_year}
 use Rattle.state.specs.Store.{written, hints_start}
 

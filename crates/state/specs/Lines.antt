@@ -1,7 +1,6 @@
 -- The lines of the covered letters in the store, each at its place, and each cell read through its limit.
 -- Assumes nothing: these are definitions.
-use Rattle.std.specs.Prelude.{true, false, List, [], ◌∷◌, ◌≡◌, ℕ, ◌+◌, ◌-◌, ◌*◌, min, leb, ltb, get_or}
-use Rattle.model.specs.Basics.{if◌then◌else◌}
+use Rattle.std.specs.Prelude.{true, false, List, [], ◌∷◌, ◌≡◌, ℕ, ◌+◌, ◌-◌, ◌*◌, min, leb, ltb, get_or, if◌then◌else◌}
 use Rattle.model.specs.Letter.{covered, ages}
 use Rattle.line_limits.specs.declared.line.Line.{Line}
 use Rattle.line_limits.specs.Limits.{limited_of}

@@ -1,7 +1,6 @@
 -- The kept patterns in the store: a slot of eleven cells, ten factors and a composite, for each of the ten patterns that a line may keep.
 -- Assumes nothing: these are definitions.
-use Rattle.std.specs.Prelude.{List, [], ◌∷◌, ◌++◌, map, ℕ, zero, suc, ◌+◌, ◌-◌, ◌*◌, ◌%◌, min, take, get_or, replicate}
-use Rattle.model.specs.Basics.{if◌then◌else◌}
+use Rattle.std.specs.Prelude.{List, [], ◌∷◌, ◌++◌, map, ℕ, zero, suc, ◌+◌, ◌-◌, ◌*◌, ◌%◌, min, take, get_or, replicate, if◌then◌else◌}
 use Rattle.model.specs.Letter.{covered, ages}
 use Rattle.model.specs.Book.{Kept}
 use Rattle.state.specs.Store.{piece, written, slots_start}

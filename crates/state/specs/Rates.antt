@@ -1,8 +1,7 @@
 -- "The book holds one rate place for each year from 1987 to 2099."
 -- Assumes nothing: these are definitions.
-use Rattle.std.specs.Prelude.{List, ℕ, ◌-◌, get_or, set}
+use Rattle.std.specs.Prelude.{List, ℕ, ◌-◌, get_or, set, if◌then◌else◌}
 use Rattle.std.proofs.Math.Option.{Option, none, some}
-use Rattle.model.specs.Basics.{if◌then◌else◌}
 use Rattle.model.specs.Kind.{is_rate, is_year}
 use Rattle.state.specs.declared.book.Book.{Book}
 

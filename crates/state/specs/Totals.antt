@@ -1,7 +1,6 @@
 -- The totals of the covered letters in the store, three cells each, read by the line's last closed year.
 -- Assumes nothing: these are definitions.
-use Rattle.std.specs.Prelude.{List, ℕ, ◌+◌, ◌*◌}
-use Rattle.model.specs.Basics.{if◌then◌else◌}
+use Rattle.std.specs.Prelude.{List, ℕ, ◌+◌, ◌*◌, if◌then◌else◌}
 use Rattle.model.specs.Book.{no_totals}
 use Rattle.model.specs.Letter.{covered}
 use Rattle.line_limits.specs.declared.totals.Totals.{Totals}

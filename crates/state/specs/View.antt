@@ -1,8 +1,7 @@
 -- The model's book that the code's book and the lent store are. The view is total: every cell is read through its limits, so that every store is some book's.
 -- Assumes nothing: these are definitions.
-use Rattle.std.specs.Prelude.{List, ℕ, replicate}
+use Rattle.std.specs.Prelude.{List, ℕ, replicate, if◌then◌else◌}
 use Rattle.std.proofs.Math.Option.{none, some}
-use Rattle.model.specs.Basics.{if◌then◌else◌}
 use Rattle.model.specs.Kind.{is_year}
 use Rattle.model.specs.Book as model
 use Rattle.state.specs.declared.book.Book.{Book}

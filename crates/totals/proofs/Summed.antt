@@ -1,12 +1,12 @@
 -- SUM.
 -- Assumes nothing.
+use Rattle.std.specs.Prelude.{if◌then◌else◌}
 use mathlib.Core.Bool.{Bool, true, false}
 use mathlib.Core.List.{List}
 use mathlib.Core.Path.{◌≡◌, refl, sym, ◌∙◌}
 use mathlib.Core.Option.{none, some}
 use Prim.Native.Nat.{ℕ}
 use lib.IntN.{ℤ}
-use Rattle.model.specs.Basics.{if◌then◌else◌}
 use Rattle.model.specs.Letter.{covered}
 use Rattle.model.specs.Call.{totals}
 use Rattle.model.specs.Question.{Sound, book_questions, first_no}
