@@ -15,7 +15,7 @@ use payments::schedule::schedule_of;
 use refusal::{Refusal, Verdict};
 
 // The factors are those of ages 1 to 10, or of 1 and 2 and then zeros.
-#[derive(Drop)]
+#[derive(Clone, Copy)]
 pub struct Pattern {
     pub verdict: Verdict,
     pub factors: [u64; 10],

@@ -4,7 +4,7 @@ ghost use Rattle.model.specs.Factor.{worked_back};
 ghost use Rattle.factor.specs.Walk.{Weighable, Walkable, Walked};
 
 // An age that is worked back: what is unpaid there, and its factor.
-#[derive(Drop)]
+#[derive(Clone, Copy)]
 pub struct Back {
     pub unpaid: u64,
     pub factor: u64,

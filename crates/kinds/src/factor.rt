@@ -7,7 +7,7 @@ pub struct Factor {
     value: u64,
 }
 
-#[derive(Drop)]
+#[derive(Clone, Copy)]
 pub enum MaybeFactor {
     Within(Factor),
     Outside,

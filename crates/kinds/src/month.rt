@@ -8,7 +8,7 @@ pub struct Month {
     value: u64,
 }
 
-#[derive(Drop)]
+#[derive(Clone, Copy)]
 pub enum MaybeMonth {
     Within(Month),
     Outside,

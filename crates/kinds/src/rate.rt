@@ -9,7 +9,7 @@ pub struct Rate {
     value: u64,
 }
 
-#[derive(Drop)]
+#[derive(Clone, Copy)]
 pub enum MaybeRate {
     Within(Rate),
     Outside,

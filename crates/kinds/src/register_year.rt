@@ -8,7 +8,7 @@ pub struct RegisterYear {
     value: u64,
 }
 
-#[derive(Drop)]
+#[derive(Clone, Copy)]
 pub enum MaybeRegisterYear {
     Within(RegisterYear),
     Outside,

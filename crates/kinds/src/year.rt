@@ -8,7 +8,7 @@ pub struct Year {
     value: u64,
 }
 
-#[derive(Drop)]
+#[derive(Clone, Copy)]
 pub enum MaybeYear {
     Within(Year),
     Outside,

@@ -3,7 +3,7 @@ use refusal::Refusal;
 use state::book::Book;
 
 // A Fact is of the pattern that the store keeps of that letter and year, so its text is put before the next call.
-#[derive(Drop)]
+#[derive(Clone, Copy)]
 pub enum Answer {
     Line {
         letter: u8,
@@ -40,7 +40,7 @@ pub enum Answer {
 }
 
 // The later book and the answer.
-#[derive(Drop)]
+#[derive(Clone, Copy)]
 pub struct Outcome {
     pub book: Book,
     pub answer: Answer,

@@ -9,7 +9,7 @@ pub struct Amount {
     value: u64,
 }
 
-#[derive(Drop)]
+#[derive(Clone, Copy)]
 pub enum MaybeAmount {
     Within(Amount),
     Outside,

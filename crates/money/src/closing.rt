@@ -7,7 +7,7 @@ pub struct Closing {
     value: u64,
 }
 
-#[derive(Drop)]
+#[derive(Clone, Copy)]
 pub enum MaybeClosing {
     Within(Closing),
     Outside,

@@ -8,7 +8,7 @@ pub struct Opening {
     value: u64,
 }
 
-#[derive(Drop)]
+#[derive(Clone, Copy)]
 pub enum MaybeOpening {
     Within(Opening),
     Outside,

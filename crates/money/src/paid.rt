@@ -9,7 +9,7 @@ pub struct Paid {
     value: i64,
 }
 
-#[derive(Drop)]
+#[derive(Clone, Copy)]
 pub enum MaybePaid {
     Within(Paid),
     Outside,

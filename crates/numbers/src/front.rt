@@ -13,7 +13,7 @@ const FRONT: usize = 12;
 const TAB: u8 = 217;
 
 // The digits among these bytes: their number, how many they are, and the byte after them less b'0', modulo 256; 0 where all are digits.
-#[derive(Drop)]
+#[derive(Clone, Copy)]
 pub struct Front {
     pub size: u64,
     pub length: usize,

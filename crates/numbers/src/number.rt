@@ -11,14 +11,14 @@ use crate::front::{ends_at_tab, front_digits, is_far_from_end};
 const MOST: u64 = 1000000000000;
 
 // The digits at the front of the rest of a line: their number, or MOST, and how many they are.
-#[derive(Drop)]
+#[derive(Clone, Copy)]
 struct Digits {
     pub size: u64,
     pub length: usize,
 }
 
 // Is the field at the front well written? If so, its sign, its size and its length; if not, zeros.
-#[derive(Drop)]
+#[derive(Clone, Copy)]
 pub struct Reading {
     pub right: bool,
     pub minus: bool,

@@ -8,7 +8,7 @@ ghost use Rattle.payments.specs.Payment.{Paired, Payable, Paid};
 use crate::ratio::cumulative_ratio;
 
 // Does no ratio fall; the payments at the ages given, in half units; the last ratio.
-#[derive(Drop)]
+#[derive(Clone, Copy)]
 pub struct ByAge {
     pub climbs: bool,
     pub pay: [u64; 16],

@@ -11,7 +11,7 @@ use money::amount::Amount;
 use refusal::{Refusal, Verdict};
 
 // What questions 3, 4, 6, 11 and 12 come to; and the payments, in half units, at ages 1 to 16, or at 1 to 4 and then zeros.
-#[derive(Drop)]
+#[derive(Clone, Copy)]
 pub struct Schedule {
     pub verdict: Verdict,
     pub pay: [u64; 16],

@@ -9,7 +9,7 @@ use state::book::Book;
 use state::store::Store;
 
 // The later book, and the place after the text.
-#[derive(Drop)]
+#[derive(Clone, Copy)]
 pub struct Answered {
     pub book: Book,
     pub next: usize,

@@ -10,7 +10,7 @@ use state::book::Book;
 use state::store::Store;
 
 // The later book; how many bytes of the line before the piece still wait for its end; the place after the last line; the place after the texts.
-#[derive(Drop)]
+#[derive(Clone, Copy)]
 pub struct Lines {
     pub book: Book,
     pub begun: usize,

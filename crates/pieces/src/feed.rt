@@ -16,7 +16,7 @@ pub struct Run {
 }
 
 // The run after the bytes that were taken, and how long the text is that was put.
-#[derive(Drop)]
+#[derive(Clone, Copy)]
 pub struct Fed {
     pub run: Run,
     pub taken: usize,

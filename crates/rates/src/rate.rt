@@ -8,7 +8,7 @@ use kinds::rate::{MaybeRate, Rate};
 use refusal::Refusal;
 
 // The rate of sixty months; or that there are not sixty of them, or that one of them is no rate.
-#[derive(Drop)]
+#[derive(Clone, Copy)]
 pub enum Mean {
     Is(Rate),
     Refused(Refusal),

@@ -8,7 +8,7 @@ ghost use Rattle.numbers.specs.Number.{Reads};
 
 use numbers::number::{Reading, number_from};
 
-#[derive(Drop)]
+#[derive(Clone, Copy)]
 pub struct Reader<'a> {
     pub line: &'a [u8],
     pub at: usize,

@@ -2,7 +2,7 @@
 use refusal::Refusal;
 
 // What is wrong at the first question that is answered no; or the kind of the call.
-#[derive(Drop)]
+#[derive(Clone, Copy)]
 pub enum Asked {
     Refused(Refusal),
     Declare,
@@ -15,7 +15,7 @@ pub enum Asked {
 }
 
 // The letter is the byte that the second field is, and 0 where that is not one byte, or the line is refused.
-#[derive(Drop)]
+#[derive(Clone, Copy)]
 pub struct Request {
     pub asked: Asked,
     pub letter: u8,

@@ -12,7 +12,7 @@ use kinds::register_year::is_register_year;
 use state::store::Store;
 
 // The federal mid-term rate of a month, or that none was given.
-#[derive(Drop)]
+#[derive(Clone, Copy)]
 pub enum MonthRate {
     Given(Rate),
     Missing,

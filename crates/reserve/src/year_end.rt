@@ -12,7 +12,7 @@ use refusal::{Refusal, Verdict};
 use year_rows::questions::has_lengths;
 
 // A year end: its verdict, and its figures, which are zeros beside a refusal.
-#[derive(Drop)]
+#[derive(Clone, Copy)]
 pub struct YearEnd {
     pub verdict: Verdict,
     pub paid: i64,

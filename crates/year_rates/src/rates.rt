@@ -9,7 +9,7 @@ use kinds::year::{Year, is_year};
 use state::book::Book;
 
 // The rate of an accident year, or that none was given.
-#[derive(Drop)]
+#[derive(Clone, Copy)]
 pub enum YearRate {
     Given(Rate),
     Missing,

@@ -6,9 +6,7 @@ use Rattle.answer.proofs.text.put_done.Goals as goal
 
 pub put_numbers-requires : goal.put_numbers-requires
 put_numbers-requires c =
-    let there = c in
-    let start = there in
-    omega (arith, room start.args.out.now start.args.at _ there.has_room.ensures there.if-has_room.true)
+    omega (arith, room c.args.out.now c.args.at _ c.has_room.ensures c.if-has_room.true)
 
 pub returns-then-has_room : goal.returns-then-has_room
 unfolding done_text

@@ -8,10 +8,7 @@ loop-i-init c = search list_start
 
 pub loop-i-preserved : goal.loop-i-preserved
 loop-i-preserved c =
-    let factor = c in
-    let turn = factor in
-    let start = turn in
-    list_on _ _ _ _ _ _ _ _ start.loop-i.invariant _ start.ages-n.ensures turn.loop-i-test.true _ _ factor.put_factor-next.ensures (search rules)
+    list_on _ _ _ _ _ _ _ _ c.loop-i.invariant _ c.ages-n.ensures c.loop-i-test.true _ _ c.put_factor-next.ensures (search rules)
 
 pub returns : goal.returns
 returns c = search list_end

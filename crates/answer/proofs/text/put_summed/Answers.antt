@@ -5,9 +5,5 @@ use Rattle.answer.proofs.text.put_summed.Goals as goal
 
 pub returns : goal.returns
 returns c =
-    let losses = c in
-    let paid = losses in
-    let beginning = paid in
-    let start = beginning in
-    summed_put start.args.out.now start.args.at start.requires _ _ start.args.letter start.args.years start.args.paid _ (to_z-of_z start.ranges.paid) start.args.losses _ (to_z-of_z start.ranges.losses) _ _ _ _
-    beginning.put_beginning-first.ensures paid.put_signed-second.ensures losses.put_signed-last.ensures
+    summed_put c.args.out.now c.args.at c.requires _ _ c.args.letter c.args.years c.args.paid _ (to_z-of_z c.ranges.paid) c.args.losses _ (to_z-of_z c.ranges.losses) _ _ _ _
+    c.put_beginning-first.ensures c.put_signed-second.ensures c.put_signed-last.ensures

@@ -5,11 +5,5 @@ use Rattle.answer.proofs.text.put_tax.Goals as goal
 
 pub returns : goal.returns
 returns c =
-    let loss = c in
-    let closing = loss in
-    let opening = closing in
-    let paid = opening in
-    let beginning = paid in
-    let start = beginning in
-    tax_put start.args.out.now start.args.at start.requires _ _ start.args.letter start.args.year start.args.paid _ (to_z-of_z start.ranges.paid) start.args.opening start.args.closing start.args.loss _ (to_z-of_z start.ranges.loss) _ _ _ _ _ _ _ _
-    beginning.put_beginning-first.ensures paid.put_signed-second.ensures opening.put_number-third.ensures closing.put_number-fourth.ensures loss.put_signed-last.ensures
+    tax_put c.args.out.now c.args.at c.requires _ _ c.args.letter c.args.year c.args.paid _ (to_z-of_z c.ranges.paid) c.args.opening c.args.closing c.args.loss _ (to_z-of_z c.ranges.loss) _ _ _ _ _ _ _ _
+    c.put_beginning-first.ensures c.put_signed-second.ensures c.put_number-third.ensures c.put_number-fourth.ensures c.put_signed-last.ensures

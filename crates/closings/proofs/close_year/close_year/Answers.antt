@@ -5,13 +5,9 @@ use Rattle.closings.proofs.close_year.close_year.Goals as goal
 
 pub ask_declared-requires : goal.ask_declared-requires
 ask_declared-requires c =
-    let limited = c in
-    let dated = limited in
-    let counted = dated in
-    let lettered = counted in
-    let given = lettered.args in
-    year_sound given.letter given.year given.paid.now given.unpaid.now given.tabular.now _ lettered.is_covered.ensures counted.if-is_covered.true
-    _ counted.has_lengths.ensures dated.if-has_lengths.true _ dated.is_year.ensures limited.if-is_year.true _ limited.has_limits.ensures c.if-has_limits.true
+    let given = c.args in
+    year_sound given.letter given.year given.paid.now given.unpaid.now given.tabular.now _ c.is_covered.ensures c.if-is_covered.true
+    _ c.has_lengths.ensures c.if-has_lengths.true _ c.is_year.ensures c.if-is_year.true _ c.has_limits.ensures c.if-has_limits.true
 
 pub returns-then-has_limits : goal.returns-then-has_limits
 returns-then-has_limits c = search year_on

@@ -4,8 +4,7 @@ use Rattle.closings.proofs.totals.add_year.Goals as goal
 
 pub with_year-requires : goal.with_year-requires
 with_year-requires c =
-    let start = c in
-    growing _ _ start.args.closed _ c.totals_of-before.ensures _ _ (year_read start.args.paid start.args.loss start.requires)
+    growing _ _ c.args.closed _ c.totals_of-before.ensures _ _ (year_read c.args.paid c.args.loss c.requires)
 
 pub returns : goal.returns
 returns c =

@@ -22,8 +22,7 @@ overflow_add-weight c =
 
 pub bounds-factors-at : goal.bounds-factors-at
 bounds-factors-at c =
-    let s = c in
-    omega (arith, ap length s.requires.are ∙ length_factors _ _ _, s.requires.count)
+    omega (arith, ap length c.requires.are ∙ length_factors _ _ _, c.requires.count)
 
 pub overflow_mul-weighted : goal.overflow_mul-weighted
 overflow_mul-weighted c =

@@ -7,19 +7,12 @@ use Rattle.factor.proofs.pattern.keep_ten_year.Goals as goal
 
 pub walk-requires : goal.walk-requires
 walk-requires c =
-    let s = c in
-    walkable (rate_number s.args.rate) _ _ s.args.pay _ c.half_year_with_hint-half.ensures c.number-number.ensures (omega arith) (search rules) s.requires.1
+    walkable (rate_number c.args.rate) _ _ c.args.pay _ c.half_year_with_hint-half.ensures c.number-number.ensures (omega arith) (search rules) c.requires.1
 
 pub mean_factor-requires : goal.mean_factor-requires
 mean_factor-requires c =
-    let w = c in
-    let h = w in
-    let s = h in
-    averaged (rate_number s.args.rate) _ _ s.args.pay _ _ _ _ h.half_year_with_hint-half.ensures (search rules) s.requires.1 w.walk.ensures
+    averaged (rate_number c.args.rate) _ _ c.args.pay _ _ _ _ c.half_year_with_hint-half.ensures (search rules) c.requires.1 c.walk.ensures
 
 pub returns : goal.returns
 returns c =
-    let w = c in
-    let h = w in
-    let s = h in
-    ten_kept s.args.letter (rate_number s.args.rate) _ _ s.args.pay _ _ _ _ _ _ s.requires.0 h.half_year_with_hint-half.ensures w.number-number.ensures w.walk.ensures c.first.ensures c.mean_factor.ensures
+    ten_kept c.args.letter (rate_number c.args.rate) _ _ c.args.pay _ _ _ _ _ _ c.requires.0 c.half_year_with_hint-half.ensures c.number-number.ensures c.walk.ensures c.first.ensures c.mean_factor.ensures

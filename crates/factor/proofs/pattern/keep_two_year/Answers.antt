@@ -16,14 +16,10 @@ slice_bounds-walk-end c =
 
 pub walk-requires : goal.walk-requires
 walk-requires c =
-    let s = c in
-    let n : length s.args.pay ≡ 16 = search rules in
-    walkable (rate_number s.args.rate) _ _ (take 4 s.args.pay) _ c.half_year_with_hint-half.ensures c.number-number.ensures (omega arith) (sym (length-take-le 4 s.args.pay (omega arith))) (omega (arith, part_small 4 s.args.pay, s.requires.1))
+    let n : length c.args.pay ≡ 16 = search rules in
+    walkable (rate_number c.args.rate) _ _ (take 4 c.args.pay) _ c.half_year_with_hint-half.ensures c.number-number.ensures (omega arith) (sym (length-take-le 4 c.args.pay (omega arith))) (omega (arith, part_small 4 c.args.pay, c.requires.1))
 
 pub returns : goal.returns
 returns c =
-    let w = c in
-    let h = w in
-    let s = h in
-    let n : length s.args.pay ≡ 16 = search rules in
-    two_kept s.args.letter (rate_number s.args.rate) _ _ (take 4 s.args.pay) _ _ _ _ _ _ s.requires.0 h.half_year_with_hint-half.ensures w.number-number.ensures (length-take-le 4 s.args.pay (omega arith)) w.walk.ensures refl c.first.ensures
+    let n : length c.args.pay ≡ 16 = search rules in
+    two_kept c.args.letter (rate_number c.args.rate) _ _ (take 4 c.args.pay) _ _ _ _ _ _ c.requires.0 c.half_year_with_hint-half.ensures c.number-number.ensures (length-take-le 4 c.args.pay (omega arith)) c.walk.ensures refl c.first.ensures

@@ -5,7 +5,4 @@ use Rattle.line_limits.proofs.totals.total_cells.Goals as goal
 
 pub returns : goal.returns
 returns c =
-    let told = c in
-    let paid = told in
-    let years = paid in
-    totals_kept years.args.closed _ years.years_through-limit.ensures.0 years.args.totals _ _ (search (to_z-of_z, told.struct_told-2-1.given)) (search (to_z-of_z, told.struct_told-2-1.given)) _ paid.total_cell.ensures _ c.total_cell-2.ensures
+    totals_kept c.args.closed _ c.years_through-limit.ensures.0 c.args.totals _ _ (search (to_z-of_z, c.struct_told-2-1.given)) (search (to_z-of_z, c.struct_told-2-1.given)) _ c.total_cell.ensures _ c.total_cell-2.ensures

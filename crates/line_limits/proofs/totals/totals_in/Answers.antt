@@ -6,7 +6,4 @@ use Rattle.line_limits.proofs.totals.totals_in.Goals as goal
 
 pub returns : goal.returns
 returns c =
-    let paid = c in
-    let count = paid in
-    let years = count in
-    totals_read years.args.closed _ years.years_through-years.ensures.0 years.args.cells _ count.at_most.ensures (to_z w64 (of_z w64 paid.total_in.result)) (as_read paid.total_in.result _ (record { sfits = paid.total_in.type_inv }) paid.total_in.ensures) (to_z w64 (of_z w64 c.total_in-2.result)) (as_read c.total_in-2.result _ (record { sfits = c.total_in-2.type_inv }) c.total_in-2.ensures)
+    totals_read c.args.closed _ c.years_through-years.ensures.0 c.args.cells _ c.at_most.ensures (to_z w64 (of_z w64 c.total_in.result)) (as_read c.total_in.result _ (record { sfits = c.total_in.type_inv }) c.total_in.ensures) (to_z w64 (of_z w64 c.total_in-2.result)) (as_read c.total_in-2.result _ (record { sfits = c.total_in-2.type_inv }) c.total_in-2.ensures)

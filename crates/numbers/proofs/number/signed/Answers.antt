@@ -14,11 +14,7 @@ returns-then-sign-eq0 c = search signed_plus
 
 pub overflow_add-result : goal.overflow_add-result
 overflow_add-result c =
-    let test = c in
-    let number = test in
-    let sign = number in
-    let entry = sign in
-    omega (arith, signed_fits entry.args.rest.now entry.args.allowed sign.sign_length-sign.result sign.sign_length-sign.ensures number.unsigned-number.result number.unsigned-number.ensures test.if-sign-eq0.false)
+    omega (arith, signed_fits c.args.rest.now c.args.allowed c.sign_length-sign.result c.sign_length-sign.ensures c.unsigned-number.result c.unsigned-number.ensures c.if-sign-eq0.false)
 
 pub returns-then-size-gt0 : goal.returns-then-size-gt0
 returns-then-size-gt0 c = search signed_minus

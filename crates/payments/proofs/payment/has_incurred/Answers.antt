@@ -12,8 +12,7 @@ returns-then-incurred-i-eq0 c = search stop_at_none
 
 pub returns-then-incurred-i : goal.returns-then-incurred-i
 returns-then-incurred-i c =
-    let l = c in
-    stop_at_above _ _ l.loop-i.i l.requires l.loop-i.invariant (omega arith) (omega arith)
+    stop_at_above _ _ c.loop-i.i c.requires c.loop-i.invariant (omega arith) (omega arith)
 
 pub loop-i-preserved : goal.loop-i-preserved
 loop-i-preserved c = search incurred_on

@@ -12,16 +12,12 @@ cumulative_ratio-ratio-requires c = search sound_at
 
 pub returns-then-ratio-last : goal.returns-then-ratio-last
 returns-then-ratio-last c =
-    let l = c in
-    let s = l in
     falls _ _ _ _ (omega arith) (omega arith)
-    (stop s.args.paid.now s.args.incurred.now l.loop-i.pay l.loop-i.last l.loop-i.i s.requires l.loop-i.invariant (omega arith) c.cumulative_ratio-ratio.result c.cumulative_ratio-ratio.ensures (omega arith))
+    (stop c.args.paid.now c.args.incurred.now c.loop-i.pay c.loop-i.last c.loop-i.i c.requires c.loop-i.invariant (omega arith) c.cumulative_ratio-ratio.result c.cumulative_ratio-ratio.ensures (omega arith))
 
 pub overflow_mul-pay : goal.overflow_mul-pay
 overflow_mul-pay c =
-    let l = c in
-    let s = l in
-    omega (arith, ratio_fits s.args.paid.now s.args.incurred.now l.loop-i.pay l.loop-i.last l.loop-i.i s.requires l.loop-i.invariant (omega arith) c.cumulative_ratio-ratio.result c.cumulative_ratio-ratio.ensures)
+    omega (arith, ratio_fits c.args.paid.now c.args.incurred.now c.loop-i.pay c.loop-i.last c.loop-i.i c.requires c.loop-i.invariant (omega arith) c.cumulative_ratio-ratio.result c.cumulative_ratio-ratio.ensures)
 
 pub loop-i-preserved : goal.loop-i-preserved
 loop-i-preserved c = search on

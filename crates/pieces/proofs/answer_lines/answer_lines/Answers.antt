@@ -18,14 +18,7 @@ answer_whole_lines-requires-then-can_answer c = search (next_inside, rules, ends
 
 pub returns-then-can_answer : goal.returns-then-can_answer
 returns-then-can_answer c =
-    let whole = c in
-    let given_back = whole in
-    let joined = given_back in
-    let can = joined in
-    let asked = can in
-    let found = asked in
-    let start = found in
-    first_joined _ _ _ _ _ start.requires _ found.line_end-end.ensures _ asked.can_answer.ensures can.if-can_answer.true _ _ _ (search (rules, given_back.out-then-can_answer-1.given)) joined.answer_joined-answered.ensures _ _ _ whole.answer_whole_lines-then-can_answer.ensures
+    first_joined _ _ _ _ _ c.requires _ c.line_end-end.ensures _ c.can_answer.ensures c.if-can_answer.true _ _ _ (search (rules, c.out-then-can_answer-1.given)) c.answer_joined-answered.ensures _ _ _ c.answer_whole_lines-then-can_answer.ensures
 
 pub returns : goal.returns
 returns c = search none_joined

@@ -16,8 +16,7 @@ slice_bounds-answer_lines-end c = search count_exact
 
 pub answer_lines-lines-requires : goal.answer_lines-lines-requires
 answer_lines-lines-requires c =
-    let start = c in
-    let size : length start.args.run.line.bytes ≡ kept_bytes = search (length_mapped, start.well_formed.0) in
+    let size : length c.args.run.line.bytes ≡ kept_bytes = search (length_mapped, c.well_formed.0) in
     search (begun_short, size)
 
 pub slice_bounds-bytes-end-2 : goal.slice_bounds-bytes-end-2

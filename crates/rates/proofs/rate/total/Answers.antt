@@ -8,8 +8,7 @@ loop-i-init c = start _
 
 pub overflow_add-sum : goal.overflow_add-sum
 overflow_add-sum c =
-    let s = c in
-    omega (arith, month_small s.args.months.now c.loop-i.i s.requires.1 (omega arith))
+    omega (arith, month_small c.args.months.now c.loop-i.i c.requires.1 (omega arith))
 
 pub loop-i-preserved : goal.loop-i-preserved
 loop-i-preserved c = search on

@@ -9,19 +9,11 @@ loop-k-init c = search gather_start
 
 pub overflow_add-at : goal.overflow_add-at
 overflow_add-at c =
-    let test = c in
-    let number = test in
-    let z = number in
-    let entry = z in
-    omega (arith, entry.well_formed, ends entry.args.line.now z.loop-k.at number.allows_minus.result number.read_number-number.result number.read_number-number.ensures test.if-right.true)
+    omega (arith, c.well_formed, ends c.args.line.now c.loop-k.at c.allows_minus.result c.read_number-number.result c.read_number-number.ensures c.if-right.true)
 
 pub overflow_add-at-then-right : goal.overflow_add-at-then-right
 overflow_add-at-then-right c =
-    let test = c in
-    let number = test in
-    let z = number in
-    let entry = z in
-    omega (arith, entry.well_formed, ends entry.args.line.now z.loop-k.at number.allows_minus.result number.read_number-number.result number.read_number-number.ensures test.if-right.true)
+    omega (arith, c.well_formed, ends c.args.line.now c.loop-k.at c.allows_minus.result c.read_number-number.result c.read_number-number.ensures c.if-right.true)
 
 pub loop-k-preserved : goal.loop-k-preserved
 loop-k-preserved c = search gather_on
