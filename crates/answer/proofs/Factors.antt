@@ -1,12 +1,7 @@
 -- The published factors of a pattern in the store: one for each age, each at its place.
 -- Assumes nothing.
-use mathlib.Core.Bool.{Bool, true, false}
-use mathlib.Core.List.{List, ◌∷◌, map}
-use mathlib.Core.Path.{◌≡◌, refl, ap, ◌∙◌}
-use Prim.Native.Nat.{ℕ, ◌<◌}
-use native.Mathlib.Omega.{arith}
-use lib.ListN.{length, take, drop, get_or, length-drop, length-map, length-replicate, get_or-map}
-use lib.Seq.{get_or-take, length-take-le}
+use Rattle.std.proofs.Common.{Bool, true, false, List, [], ◌∷◌, ◌++◌, map, ◌≡◌, refl, sym, ap, ◌∙◌, append_assoc, append-nil, ℕ, ◌+◌, ◌*◌, ◌<◌, ◌≤◌, arith, add-one, length, take, drop, get_or, length-drop, get_or-take, length-take-le, take-suc, take_all}
+use lib.ListN.{length-map, length-replicate, get_or-map}
 use Rattle.model.specs.Letter.{covered, ages}
 use Rattle.model.specs.Number.{decimal}
 use Rattle.model.specs.Published.{published}
@@ -14,7 +9,13 @@ use Rattle.model.proofs.Ages.{ages_small}
 use Rattle.state.specs.Store.{piece, size}
 use Rattle.state.specs.Patterns.{slot_start, slot_at, factor_in, factor_at, pattern_at}
 use Rattle.state.proofs.Places.{covered_place}
-use Rattle.answer.specs.Put.{PutsShort}
+use Rattle.answer.specs.Text.{tabbed}
+
+-- one number more
+tabbed_more : (list : List ℕ) (n : ℕ) → tabbed (list ++ (n ∷ [])) ≡ tabbed list ++ (9 ∷ decimal n)
+unfolding tabbed
+tabbed_more [] n = rw (append-nil (decimal n))
+tabbed_more (m ∷ list) n = rw (tabbed_more list n, append_assoc (decimal m) (tabbed list))
 
 module _ (store : List ℕ) (letter year : ℕ) where
   abbrev slot : List ℕ
@@ -29,18 +30,34 @@ module _ (store : List ℕ) (letter year : ℕ) where
   slot_cells true c n = rw c (length-take-le 11 (drop (slot_start letter year) store) (rw length-drop (omega (arith, covered_place letter c))))
   slot_cells false c n = rw c (length-replicate {A = ℕ} 11 0)
 
-  pub factor_count : length store ≡ size → length factors ≡ ages letter
+  factor_count : length store ≡ size → length factors ≡ ages letter
   factor_count n =
       length-map (pattern_at store letter year).factors published
       ∙ length-map (take (ages letter) slot) factor_in
       ∙ length-take-le (ages letter) slot (omega (arith, ages_small letter, slot_cells (covered letter) refl n))
 
-  pub factor_is : (i : ℕ) → i < ages letter → get_or factors i 0 ≡ published (factor_at store letter year i)
+  factor_is : (i : ℕ) → i < ages letter → get_or factors i 0 ≡ published (factor_at store letter year i)
   factor_is i lt =
       get_or-map published (pattern_at store letter year).factors i 0
       ∙ ap published (get_or-map factor_in (take (ages letter) slot) i 0 ∙ ap factor_in (get_or-take (ages letter) slot i 0 lt))
 
-  -- as code reads one and puts it
-  pub factor_put : (place factor : ℕ) → factor ≡ factor_at store letter year place → (number : ℕ) → number ≡ published factor → (out : List ℕ) (at : ℕ) (later : List ℕ) (next : ℕ) → PutsShort out at (9 ∷ decimal number) later next 21
-      → PutsShort out at (9 ∷ decimal (published (factor_at store letter year place))) later next 21
-  factor_put place factor ef number e out at later next p = rw (← ef, ← e) p
+  -- the factors of the ages before place i are put
+  pub record Listing (first out : List ℕ) (i : ℕ) : Type 0 where
+    pub put : out ≡ first ++ tabbed (take i factors)
+    pub short : length out ≤ length first + 21 * i
+
+  pub list_start : (first : List ℕ) → Listing first first 0
+  unfolding tabbed
+  list_start first = record { put = sym (append-nil first); short = omega arith }
+
+  pub list_on : (first out : List ℕ) (i : ℕ) → Listing first out i → length store ≡ size → i < ages letter → (later : List ℕ) → later ≡ out ++ (9 ∷ decimal (published (factor_at store letter year i)))
+      → length later ≤ length out + 21 → Listing first later (i + 1)
+  list_on first out i l n lt later p few =
+      let number : ℕ = published (factor_at store letter year i) in
+      record {
+        put = p ∙ rw (l.put, add-one i, take-suc factors i 0 (omega (arith, factor_count n)), factor_is i lt, tabbed_more (take i factors) number) (append_assoc first (tabbed (take i factors)) (9 ∷ decimal number));
+        short = omega (arith, l.short, few);
+      }
+
+  pub list_end : (first out : List ℕ) (i : ℕ) → Listing first out i → length store ≡ size → ages letter ≤ i → out ≡ first ++ tabbed factors
+  list_end first out i l n le = rw (take_all i factors (omega (arith, factor_count n))) at l.put

@@ -1,9 +1,2 @@
-pub mod Copying
-pub mod Counting
 pub mod Factors
-pub mod Joins
-pub mod Lines
-pub mod Listing
-pub mod Numbers
-pub mod Spelling
-pub mod Writing
+pub mod Texts

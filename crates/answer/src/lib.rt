@@ -1,6 +1,5 @@
 // The text of an answer, in bytes: fields parted by one tab, and byte 10. `text` is the way in.
 #![tactic(auto)]
 
-mod digits;
 mod put;
 pub mod text;

@@ -15,7 +15,7 @@ use lib.Seq.{get_or-set_same, get_or-set_other}
 use Rattle.model.specs.Letter.{ages}
 use Rattle.model.proofs.Ages.{ages_small}
 use Rattle.reserve.specs.Lists.{stated_rows}
-use Rattle.line_limits.specs.declared.line.Line.{Line}
+use Rattle.line_limits.specs.declared.line.Patterns.{Patterns}
 use Rattle.state.specs.Patterns.{factor_at}
 use Rattle.closings.specs.Rows.{Paired, have_patterns, row_factor_of, FactorsOf}
 
@@ -56,38 +56,38 @@ module _ (unpaid tabular : List ℕ) (n first k : ℕ) (a : Asked unpaid tabular
         rest = next lt ∙ rw (eq-eqb (get_or unpaid k 0 + get_or tabular k 0) 0 (omega (arith, ltb-false 0 (get_or unpaid k 0 + get_or tabular k 0) (sym eg ∙ no_gross))), add-one);
       }
 
-  module _ (letter : ℕ) (line : Line) (en : n ≡ ages letter) (ef : first ≡ line.kept) where
-    pub ask_stop : (g : Bool) → k < n → g ≡ ltb 0 (get_or unpaid k 0 + get_or tabular k 0) → g ≡ true → false ≡ have_patterns line.kept (ages letter) unpaid tabular
+  module _ (letter : ℕ) (patterns : Patterns) (en : n ≡ ages letter) (ef : first ≡ patterns.count) where
+    pub ask_stop : (g : Bool) → k < n → g ≡ ltb 0 (get_or unpaid k 0 + get_or tabular k 0) → g ≡ true → false ≡ have_patterns patterns.count (ages letter) unpaid tabular
     ask_stop g lt eg some_gross =
         let above = ltb-true 0 (get_or unpaid k 0 + get_or tabular k 0) (sym eg ∙ some_gross) in
         rw (← en, ← ef, next lt, ne_eqb (get_or unpaid k 0 + get_or tabular k 0) 0 (λ e. omega (arith, above)))
 
-    pub ask_end : n ≤ k → true ≡ have_patterns line.kept (ages letter) unpaid tabular
+    pub ask_end : n ≤ k → true ≡ have_patterns patterns.count (ages letter) unpaid tabular
     ask_end le = rw (← en, ← ef, a.rest, have_end k n unpaid tabular le)
 
 -- a row's factor, by the code's counts of ages and of kept patterns
-module _ (store : List ℕ) (letter : ℕ) (line : Line) (k n : ℕ) (en : n ≡ ages letter) where
-  pub factor_kept : (r : ℕ) → k < n → k < line.kept → r ≡ factor_at store letter (line.last - k) k → r ≡ row_factor_of store letter line k
-  factor_kept r lt lk e = rw (← en, lt-ltb k n lt, lt-ltb k line.kept lk) e
+module _ (store : List ℕ) (letter : ℕ) (patterns : Patterns) (k n : ℕ) (en : n ≡ ages letter) where
+  pub factor_kept : (year : ℕ) → year ≡ patterns.last - k → (r : ℕ) → k < n → k < patterns.count → r ≡ factor_at store letter year k → r ≡ row_factor_of store letter patterns k
+  factor_kept year ey r lt lk e = rw (← en, lt-ltb k n lt, lt-ltb k patterns.count lk, ← ey) e
 
-  pub factor_missing : k < n → line.kept ≤ k → 0 ≡ row_factor_of store letter line k
-  factor_missing lt le = rw (← en, lt-ltb k n lt, le-ltb k line.kept le)
+  pub factor_missing : k < n → patterns.count ≤ k → 0 ≡ row_factor_of store letter patterns k
+  factor_missing lt le = rw (← en, lt-ltb k n lt, le-ltb k patterns.count le)
 
-  pub factor_prior : (r : ℕ) → n ≤ k → r ≡ factor_at store letter line.last 10 → r ≡ row_factor_of store letter line k
+  pub factor_prior : (r : ℕ) → n ≤ k → r ≡ factor_at store letter patterns.last 10 → r ≡ row_factor_of store letter patterns k
   factor_prior r le e = rw (← en, le-ltb k n le) e
 
 -- the factors before place k are written
-pub record Filled (store : List ℕ) (letter : ℕ) (line : Line) (factors : List ℕ) (k : ℕ) : Type 0 where
+pub record Filled (store : List ℕ) (letter : ℕ) (patterns : Patterns) (factors : List ℕ) (k : ℕ) : Type 0 where
   pub places : length factors ≡ 11
   pub few : ages letter ≤ 10
   pub inside : k ≤ suc (ages letter)
-  pub each : (j : ℕ) → j < k → get_or factors j 0 ≡ row_factor_of store letter line j
+  pub each : (j : ℕ) → j < k → get_or factors j 0 ≡ row_factor_of store letter patterns j
 
-pub fill_start : (store : List ℕ) (letter : ℕ) (line : Line) → Filled store letter line (replicate 11 0) 0
-fill_start store letter line = record { places = refl; few = ages_small letter; inside = omega arith; each = λ j lt. absurd (omega arith) }
+pub fill_start : (store : List ℕ) (letter : ℕ) (patterns : Patterns) → Filled store letter patterns (replicate 11 0) 0
+fill_start store letter patterns = record { places = refl; few = ages_small letter; inside = omega arith; each = λ j lt. absurd (omega arith) }
 
-module _ (store : List ℕ) (letter : ℕ) (line : Line) (factors : List ℕ) (k n : ℕ) (en : n ≡ ages letter) (f : Filled store letter line factors k) where
-  pub fill_on : (r : ℕ) → k ≤ n → r ≡ row_factor_of store letter line k → Filled store letter line (set factors k r) (k + 1)
+module _ (store : List ℕ) (letter : ℕ) (patterns : Patterns) (factors : List ℕ) (k n : ℕ) (en : n ≡ ages letter) (f : Filled store letter patterns factors k) where
+  pub fill_on : (r : ℕ) → k ≤ n → r ≡ row_factor_of store letter patterns k → Filled store letter patterns (set factors k r) (k + 1)
   fill_on r le e =
       let free : k < length factors = omega (arith, f.places, f.few) in
       record {
@@ -101,5 +101,5 @@ module _ (store : List ℕ) (letter : ℕ) (line : Line) (factors : List ℕ) (k
             (eq-or-lt_of_le {n = j} {m = k} (omega arith));
       }
 
-  pub fill_end : n < k → FactorsOf store letter line factors
+  pub fill_end : n < k → FactorsOf store letter patterns factors
   fill_end lt = record { each = λ j le. f.each j (omega arith) }

@@ -1,6 +1,6 @@
 -- The kept patterns that the rows of a year take: what the code finds by the line's count is what the book finds by the years.
 -- Assumes nothing.
-use Rattle.std.specs.Prelude.{if◌then◌else◌}
+use Rattle.std.specs.Prelude.{if◌then◌else◌, Some}
 use mathlib.Core.Bool.{Bool, true, false, or-true, or-false}
 use mathlib.Core.List.{List, [], ◌∷◌}
 use mathlib.Core.Path.{◌≡◌, refl, ◌∙◌}
@@ -18,41 +18,47 @@ use Rattle.model.specs.YearEnd.{row_factor}
 use Rattle.model.proofs.Ages.{ages_small}
 use Rattle.reserve.proofs.Closings.{RowFactors}
 use Rattle.line_limits.specs.declared.line.Line.{Line}
+use Rattle.line_limits.specs.declared.line.Patterns.{Patterns}
 use Rattle.state.specs.Lines.{Limited}
 use Rattle.state.specs.Patterns.{slot_at, factor_in, kept_back}
 use Rattle.closings.specs.Rows.{have_patterns, row_factor_of, FactorsOf}
 use Rattle.state.specs.View.{line_of}
+use Rattle.state.proofs.Limited.{kept}
 use Rattle.state.proofs.KeptYears.{kept_year, kept_past, find_kept, find_none}
 
 -- the factor of each row
-module _ (store : List ℕ) (letter : ℕ) (line : Line) (l : Limited letter line) (some_kept : 0 < line.kept) where
-  factor_by : (k : ℕ) (t u : Bool) → ltb k (ages letter) ≡ t → ltb k line.kept ≡ u → row_factor_of store letter line k ≡ row_factor letter (line_of store letter line) line.last k
+module _ (store : List ℕ) (letter : ℕ) (line : Line) (l : Limited letter line) (p : Patterns) (e : line.patterns ≡ Some p) where
+  some_kept : 0 < p.count
+  some_kept = (kept letter line l p e).1
+
+  factor_by : (k : ℕ) (t u : Bool) → ltb k (ages letter) ≡ t → ltb k p.count ≡ u → row_factor_of store letter p k ≡ row_factor letter (line_of store letter line) p.last k
   unfolding row_factor line_of
-  factor_by k true true age kept =
-      let slot : List ℕ = slot_at store letter (line.last - k) in
+  factor_by k true true age in_kept =
+      let slot : List ℕ = slot_at store letter (p.last - k) in
       rw (
+        e,
         age,
-        kept,
-        find_kept store letter line.kept line.last k (ltb-true k line.kept kept) (kept_past letter line l some_kept),
+        in_kept,
+        find_kept store letter p.count p.last k (ltb-true k p.count in_kept) (kept_past letter line l p e),
         get_or-map factor_in (take (ages letter) slot) k 0,
         get_or-take (ages letter) slot k 0 (ltb-true k (ages letter) age),
       )
-  factor_by k true false age kept =
-      let before : k ≤ line.last = omega (arith, ltb-true k (ages letter) age, ages_small letter, kept_year letter line l some_kept) in
-      rw (age, kept, find_none store letter line.kept line.last k (ltb-false k line.kept kept) before)
-  factor_by k false u age kept =
-      let same : line.last - 0 ≡ line.last = omega arith in
-      let found = rw same at (find_kept store letter line.kept line.last 0 some_kept (kept_past letter line l some_kept)) in
-      rw (age, found)
+  factor_by k true false age in_kept =
+      let before : k ≤ p.last = omega (arith, ltb-true k (ages letter) age, ages_small letter, kept_year letter line l p e) in
+      rw (e, age, in_kept, find_none store letter p.count p.last k (ltb-false k p.count in_kept) before)
+  factor_by k false u age in_kept =
+      let same : p.last - 0 ≡ p.last = omega arith in
+      let found = rw same at (find_kept store letter p.count p.last 0 some_kept (kept_past letter line l p e)) in
+      rw (e, age, found)
 
-  factor_is : (k : ℕ) → row_factor_of store letter line k ≡ row_factor letter (line_of store letter line) line.last k
-  factor_is k = factor_by k (ltb k (ages letter)) (ltb k line.kept) refl refl
+  factor_is : (k : ℕ) → row_factor_of store letter p k ≡ row_factor letter (line_of store letter line) p.last k
+  factor_is k = factor_by k (ltb k (ages letter)) (ltb k p.count) refl refl
 
-  pub row_factors_are : (factors : List ℕ) → FactorsOf store letter line factors → RowFactors letter (line_of store letter line) line.last factors (suc (ages letter))
+  pub row_factors_are : (factors : List ℕ) → FactorsOf store letter p factors → RowFactors letter (line_of store letter line) p.last factors (suc (ages letter))
   row_factors_are factors f =
       record {
         same = λ k lt. f.each k lt ∙ factor_is k;
-        limit = λ k lt. rw (factor_is k) at (small_by (ltb k (ages letter)) (ltb k line.kept) (get_or (slot_at store letter (line.last - k)) k 0) (get_or (slot_at store letter line.last) 10 0));
+        limit = λ k lt. rw (factor_is k) at (small_by (ltb k (ages letter)) (ltb k p.count) (get_or (slot_at store letter (p.last - k)) k 0) (get_or (slot_at store letter p.last) 10 0));
       }
     where
       small_by : (t u : Bool) (a b : ℕ) → (if t then (if u then factor_in a else 0) else factor_in b) ≤ 10000000000
@@ -87,10 +93,10 @@ module _ (store : List ℕ) (letter kept last : ℕ) (past : kept ≤ last) wher
   have_from k (suc n) (p ∷ paid) (u ∷ unpaid) (t ∷ tabular) e le =
       have_by k n p u t paid unpaid tabular (ltb k kept) refl (omega arith) (have_from (suc k) n paid unpaid tabular (omega arith) (omega arith))
 
-pub have_patterns_is : (store : List ℕ) (letter : ℕ) (line : Line) → Limited letter line → 0 < line.kept → (paid : List ℤ) (unpaid tabular : List ℕ) → length paid ≡ suc (ages letter) → length unpaid ≡ suc (ages letter) → length tabular ≡ suc (ages letter)
-    → have_patterns line.kept (ages letter) unpaid tabular ≡ have_kept (line_of store letter line).kept line.last 0 (take (ages letter) (rows_of paid unpaid tabular))
+pub have_patterns_is : (store : List ℕ) (letter : ℕ) (line : Line) → Limited letter line → (p : Patterns) → line.patterns ≡ Some p → (paid : List ℤ) (unpaid tabular : List ℕ) → length paid ≡ suc (ages letter) → length unpaid ≡ suc (ages letter) → length tabular ≡ suc (ages letter)
+    → have_patterns p.count (ages letter) unpaid tabular ≡ have_kept (line_of store letter line).kept p.last 0 (take (ages letter) (rows_of paid unpaid tabular))
 unfolding line_of
-have_patterns_is store letter line l some_kept paid unpaid tabular ep eu et =
-    let inside : 0 + ages letter ≤ suc line.last = omega (arith, ages_small letter, kept_year letter line l some_kept) in
-    let all_kept : line.kept - 0 ≡ line.kept = omega arith in
-    rw all_kept at (have_from store letter line.kept line.last (kept_past letter line l some_kept) 0 (ages letter) paid unpaid tabular (omega arith) inside)
+have_patterns_is store letter line l p e paid unpaid tabular ep eu et =
+    let inside : 0 + ages letter ≤ suc p.last = omega (arith, ages_small letter, kept_year letter line l p e) in
+    let all_kept : p.count - 0 ≡ p.count = omega arith in
+    rw e (rw all_kept at (have_from store letter p.count p.last (kept_past letter line l p e) 0 (ages letter) paid unpaid tabular (omega arith) inside))

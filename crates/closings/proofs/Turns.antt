@@ -1,55 +1,65 @@
 -- Question 10 of the code's line is that of the line that the view shows.
 -- Assumes nothing.
-use Rattle.std.specs.Prelude.{if◌then◌else◌}
-use mathlib.Core.Bool.{Bool, true, false, not, ◌&&◌}
+use Rattle.std.specs.Prelude.{if◌then◌else◌, Option, None, Some, is_some}
+use mathlib.Core.Bool.{Bool, true, false, ◌&&◌}
 use mathlib.Core.List.{List}
-use mathlib.Core.Path.{◌≡◌, refl}
-use mathlib.Core.Option.{Option, none, some}
-use Prim.Native.Nat.{ℕ, zero, suc}
-use borrow.Author.Tests.{eq-eqb, ne_eqb}
+use mathlib.Core.Path.{◌≡◌, refl, ap, ◌∙◌}
+use Prim.Native.Nat.{ℕ, zero, suc, ◌<◌}
+use native.Mathlib.Omega.{arith}
+use borrow.Author.Tests.{eqb-true}
 use lib.Dec.{eqb}
-use Rattle.model.specs.Kind.{is_year}
-use Rattle.model.specs.Book as model
 use Rattle.model.specs.Book.{latest}
-use Rattle.model.specs.Question.{is_year_of, is_open}
+use Rattle.model.specs.Question as model
+use Rattle.model.proofs.Lists.{and_left, and_right}
 use Rattle.line_limits.specs.declared.line.Line.{Line}
+use Rattle.line_limits.specs.declared.line.Patterns.{Patterns}
+use Rattle.state.specs.Lines.{Limited}
 use Rattle.state.specs.Patterns.{kept_back}
-use Rattle.state.specs.View.{line_of}
-use Rattle.ledger.proofs.Conditions.{both, some_kept}
-use Rattle.closings.specs.CloseYear.{is_due}
-
--- what the code finds
-module _ (year : ℕ) (line : Line) where
-  pub nothing_due : line.kept ≡ 0 → false ≡ is_due line year
-  unfolding is_due
-  nothing_due z = rw z
-
-  module _ (z : line.kept ≡ 0 → ⊥) where
-    pub not_last : (year ≡ line.last → ⊥) → false ≡ is_due line year
-    unfolding is_due
-    not_last y = rw (ne_eqb line.kept 0 z, ne_eqb year line.last y)
-
-    module _ (t : Bool) (et : t ≡ is_year line.closed) where
-      pub due_closed : year ≡ line.last → t ≡ true → not (eqb line.closed year) ≡ is_due line year
-      unfolding is_due
-      due_closed y e = rw (ne_eqb line.kept 0 z, eq-eqb year line.last y, ← et, e)
-
-      pub due_open : year ≡ line.last → t ≡ false → true ≡ is_due line year
-      unfolding is_due
-      due_open y e = rw (ne_eqb line.kept 0 z, eq-eqb year line.last y, ← et, e)
+use Rattle.state.specs.View.{closed_of, kept_of, line_of}
+use Rattle.state.proofs.Limited.{taken, kept}
+use Rattle.closings.specs.CloseYear.{is_open, due_of, due}
 
 -- what the model finds
-module _ (store : List ℕ) (letter : ℕ) (line : Line) (year closing : ℕ) where
-  abbrev closed_by : Bool → Option model.Closed
-  closed_by t = if t then some (record { year = line.closed; closing = closing }) else none
+open_same : (closed : Option ℕ) (closing year : ℕ) → model.is_open (closed_of closed closing) year ≡ is_open closed year
+open_same None closing year = refl
+open_same (Some c) closing year = refl
 
-  due_by : (n : ℕ) (t : Bool) → (is_year_of (latest (kept_back store letter n line.last)) year && is_open (closed_by t) year)
-      ≡ (if eqb n 0 then false else (if eqb year line.last then (if t then not (eqb line.closed year) else true) else false))
-  unfolding kept_back
-  due_by zero t = refl
-  due_by (suc n) true = rw (some_kept n) (both (eqb year line.last) (not (eqb line.closed year)))
-  due_by (suc n) false = rw (some_kept n) (both (eqb year line.last) true)
+some_same : {A : Type 0} (t : Bool) (v : A) → t ≡ is_some (if t then Some v else None)
+some_same true v = refl
+some_same false v = refl
 
-pub due_is : (store : List ℕ) (letter : ℕ) (line : Line) (year : ℕ) → (is_year_of (latest (line_of store letter line).kept) year && is_open (line_of store letter line).closed year) ≡ is_due line year
-unfolding line_of is_due
-due_is store letter line year = due_by store letter line year line.closing line.kept (is_year line.closed)
+kept_same : (store : List ℕ) (letter n last year : ℕ) (closed : Option ℕ) (closing : ℕ) → 0 < n → (model.is_year_of (latest (kept_back store letter n last)) year && model.is_open (closed_of closed closing) year) ≡ (eqb year last && is_open closed year)
+unfolding kept_back
+kept_same store letter zero last year closed closing some = absurd (omega arith)
+kept_same store letter (suc n) last year closed closing some = rw (open_same closed closing year)
+
+module _ (store : List ℕ) (letter : ℕ) (line : Line) (year : ℕ) (l : Limited letter line) where
+  due_by : (patterns : Option Patterns) → line.patterns ≡ patterns → (model.is_year_of (latest (kept_of store letter patterns)) year && model.is_open (closed_of line.closed line.closing) year) ≡ is_some (due_of patterns line.closed year)
+  due_by None e = refl
+  due_by (Some p) e = kept_same store letter p.count p.last year line.closed line.closing (kept letter line l p e).1 ∙ some_same (eqb year p.last && is_open line.closed year) p
+
+  pub due_is : (model.is_year_of (latest (line_of store letter line).kept) year && model.is_open (line_of store letter line).closed year) ≡ is_some (due line year)
+  unfolding line_of due
+  due_is = due_by line.patterns refl
+
+-- a year that is due is that of the last pattern, and open
+due_facts : (patterns : Option Patterns) (closed : Option ℕ) (year : ℕ) (p : Patterns) → due_of patterns closed year ≡ Some p → (patterns ≡ Some p) × (year ≡ p.last) × (is_open closed year ≡ true)
+due_facts None closed year p e = let z : ◌≡◌ {A = ℕ} 0 1 = cc in absurd (omega arith)
+due_facts (Some q) closed year p e =
+    let found = taken (eqb year q.last && is_open closed year) q p e in
+    let last : year ≡ q.last = eqb-true year q.last (and_left (eqb year q.last) (is_open closed year) found.0) in
+    (ap (λ (x : Patterns). Some x) found.1, last ∙ ap (λ (x : Patterns). x.last) found.1, and_right (eqb year q.last) (is_open closed year) found.0)
+
+module _ (year : ℕ) (line : Line) (p : Patterns) (e : due line year ≡ Some p) where
+  facts : (line.patterns ≡ Some p) × (year ≡ p.last) × (is_open line.closed year ≡ true)
+  unfolding due
+  facts = due_facts line.patterns line.closed year p e
+
+  pub due_kept : line.patterns ≡ Some p
+  due_kept = facts.0
+
+  pub due_last : year ≡ p.last
+  due_last = facts.1
+
+  pub due_open : is_open line.closed year ≡ true
+  due_open = facts.2

@@ -1,5 +1,6 @@
 -- A year added to a line's totals, as code does it in the bits of an i64.
 -- Assumes nothing.
+use Rattle.std.specs.Prelude.{Option, Some}
 use mathlib.Core.List.{List}
 use mathlib.Core.Path.{◌≡◌, ap, ◌∙◌}
 use Prim.Native.Nat.{ℕ, ◌+◌, ◌*◌, ◌≤◌, ◌<◌, ◌^◌}
@@ -15,9 +16,9 @@ use Rattle.state.specs.Totals.{totals_at, with_totals_of}
 use Rattle.state.proofs.TotalPieces.{totals_within}
 use Rattle.closings.specs.Totals.{OfAYear, Growing}
 
-module _ (before more : ℤ) (within : nat_abs before ≤ total_limit 2099) (year : nat_abs more ≤ most_a_year) where
+module _ (before more : ℤ) (within : nat_abs before ≤ total_limit (Some 2099)) (year : nat_abs more ≤ most_a_year) where
   small : nat_abs before ≤ 113 * most_a_year
-  small = omega (arith, within, limit_small 2099)
+  small = omega (arith, within, limit_small (Some 2099))
 
   sum_small : nat_abs (before +ℤ more) < 2 ^ 63
   sum_small = omega (arith, small, sum_size before more)
@@ -39,7 +40,7 @@ module _ (before : Totals) (paid loss : ℤ) (g : Growing before paid loss) wher
   year_added = rw (sum_read before.paid paid g.within.paid g.year.paid_limit, sum_read before.losses loss g.within.losses g.year.loss_limit)
 
 -- totals that were read
-pub growing : (store : List ℕ) (letter closed : ℕ) (before : Totals) → before ≡ totals_at store letter closed → (paid loss : ℤ) → OfAYear paid loss → Growing before paid loss
+pub growing : (store : List ℕ) (letter : ℕ) (closed : Option ℕ) (before : Totals) → before ≡ totals_at store letter closed → (paid loss : ℤ) → OfAYear paid loss → Growing before paid loss
 growing store letter closed before e paid loss y = record { within = within_last closed before (rw e (totals_within store letter closed)); year = y }
 
 -- as code adds a year to the totals in the store
@@ -53,6 +54,6 @@ module _ (paid loss : ℤ) (y : OfAYear paid loss) where
   pub year_read : OfAYear (to_z w64 (of_z w64 paid)) (to_z w64 (of_z w64 loss))
   year_read = rw (paid_is, loss_is) y
 
-  pub year_kept : (store : List ℕ) (letter closed year : ℕ) (before : Totals) → before ≡ totals_at store letter closed → (after : Totals) → after ≡ with_year_of before (to_z w64 (of_z w64 paid)) (to_z w64 (of_z w64 loss))
-      → (later : List ℕ) → later ≡ with_totals_of store letter year after → later ≡ with_totals_of store letter year (with_year_of (totals_at store letter closed) paid loss)
-  year_kept store letter closed year before eb after ea later el = rw (paid_is, loss_is) at (el ∙ ap (with_totals_of store letter year) (ea ∙ ap (λ (t : Totals). with_year_of t (to_z w64 (of_z w64 paid)) (to_z w64 (of_z w64 loss))) eb))
+  pub year_kept : (store : List ℕ) (letter : ℕ) (closed : Option ℕ) (year : ℕ) (before : Totals) → before ≡ totals_at store letter closed → (after : Totals) → after ≡ with_year_of before (to_z w64 (of_z w64 paid)) (to_z w64 (of_z w64 loss))
+      → (later : List ℕ) → later ≡ with_totals_of store letter (Some year) after → later ≡ with_totals_of store letter (Some year) (with_year_of (totals_at store letter closed) paid loss)
+  year_kept store letter closed year before eb after ea later el = rw (paid_is, loss_is) at (el ∙ ap (with_totals_of store letter (Some year)) (ea ∙ ap (λ (t : Totals). with_year_of t (to_z w64 (of_z w64 paid)) (to_z w64 (of_z w64 loss))) eb))

@@ -1,13 +1,11 @@
 -- YEAR: its questions.
 -- Assumes nothing.
-use Rattle.std.specs.Prelude.{if◌then◌else◌}
-use mathlib.Core.Bool.{Bool, true, false, not, ◌&&◌}
+use Rattle.std.specs.Prelude.{if◌then◌else◌, Option, None, Some, is_some}
+use mathlib.Core.Bool.{Bool, true, false, ◌&&◌}
 use mathlib.Core.List.{List}
 use mathlib.Core.Path.{◌≡◌, refl, sym, ◌∙◌}
-use mathlib.Core.Option.{none, some}
-use Prim.Native.Nat.{ℕ, suc, ◌<◌}
-use native.Mathlib.Omega.{arith}
-use borrow.Author.Tests.{eq-eqb, eqb-true, eqb-false}
+use Prim.Native.Nat.{ℕ, suc}
+use borrow.Author.Tests.{eqb-true}
 use lib.Dec.{eqb}
 use lib.IntN.{ℤ}
 use lib.ListN.{length, take}
@@ -17,11 +15,12 @@ use Rattle.model.specs.Row.{rows_of}
 use Rattle.model.specs.Call.{Call, close_year}
 use Rattle.model.specs.Question.{Sound, has_lengths, is_within_limits, have_kept, book_questions, first_no}
 use Rattle.model.specs.Step.{as_numbers}
-use Rattle.model.proofs.Lists.{and_left, and_right, true≢false}
+use Rattle.model.proofs.Lists.{and_left, and_right}
 use Rattle.year_rows.specs.Limits.{has_limits}
 use Rattle.reserve.proofs.Verdicts.{limits_of_year}
 use Rattle.state.specs.declared.book.Book.{Book}
 use Rattle.line_limits.specs.declared.line.Line.{Line}
+use Rattle.line_limits.specs.declared.line.Patterns.{Patterns}
 use Rattle.refusal.specs.declared.Refusal.TheVariants as refusal
 use Rattle.ledger.specs.declared.answer.Outcome.{Outcome}
 use Rattle.state.specs.Lines.{line_at}
@@ -29,11 +28,11 @@ use Rattle.closings.specs.Rows.{Paired, have_patterns}
 use Rattle.state.specs.View.{line_of, view}
 use Rattle.ledger.specs.Answer.{refused_of}
 use Rattle.ledger.specs.Does.{Settled, Does}
-use Rattle.closings.specs.CloseYear.{is_due, Turned, Passed}
+use Rattle.closings.specs.CloseYear.{due, Turned, Passed}
 use Rattle.ledger.proofs.Settling.{refused, limits_refused, goes_on}
 use Rattle.state.proofs.Limited.{line_limited}
-use Rattle.state.proofs.Views.{line_is, declared_is}
-use Rattle.closings.proofs.Turns.{due_is}
+use Rattle.state.proofs.Views.{line_is}
+use Rattle.closings.proofs.Turns.{due_is, due_kept, due_last}
 use Rattle.closings.proofs.RowPatterns.{have_patterns_is}
 
 and_no : (a b : Bool) → b ≡ false → (a && b) ≡ false
@@ -63,27 +62,6 @@ module _ (letter year : ℕ) (paid : List ℤ) (unpaid tabular : List ℕ) (lett
     pub year_on : limited ≡ true → (book : Book) (store : List ℕ) (r : Outcome) (later : List ℕ) → Settled book asks store r later → Does book (as_numbers asks) store r later
     year_on m book store r later h = goes_on book asks store r (year_sound m) later h
 
--- a line that is due keeps a pattern, and the year is that of its last one
-due_by : (z y c : Bool) → (if z then false else (if y then c else false)) ≡ true → (z ≡ false) × (y ≡ true) × (c ≡ true)
-due_by true y c e = absurd (true≢false (sym e))
-due_by false true c e = (refl, refl, e)
-due_by false false c e = absurd (true≢false (sym e))
-
-module _ (year : ℕ) (line : Line) (due : is_due line year ≡ true) where
-  due_tests : (eqb line.kept 0 ≡ false) × (eqb year line.last ≡ true) × ((if is_year line.closed then not (eqb line.closed year) else true) ≡ true)
-  unfolding is_due
-  due_tests = due_by (eqb line.kept 0) (eqb year line.last) (if is_year line.closed then not (eqb line.closed year) else true) due
-
-  pub due_kept : 0 < line.kept
-  due_kept = let n = eqb-false line.kept 0 due_tests.0 in omega (arith, n)
-
-  pub due_last : year ≡ line.last
-  due_last = eqb-true year line.last due_tests.1
-
-  -- the last closed year is another
-  pub due_open : is_year line.closed ≡ true → line.closed ≡ year → ⊥
-  due_open y e = true≢false (sym due_tests.2 ∙ rw (y, eq-eqb line.closed year e))
-
 -- the rows of a sound YEAR
 module _ (letter year : ℕ) (paid : List ℤ) (unpaid tabular : List ℕ) (sound : Sound (close_year letter year paid unpaid tabular)) where
   abbrev rows : ℕ
@@ -105,43 +83,44 @@ module _ (book : Book) (store : List ℕ) (letter year : ℕ) (paid : List ℤ) 
   call = close_year letter year paid unpaid tabular
 
   first_is : first_no (book_questions (view book store) call)
-      ≡ (if line.declared then (if is_due line year then (if have_kept (line_of store letter line).kept year 0 (take (ages letter) (rows_of paid unpaid tabular)) then none else some 13) else some 10) else some 8)
-  unfolding book_questions
-  first_is = rw (declared_is store letter line here, line_is store letter line here, due_is store letter line year)
+      ≡ (if is_some line.opening then (if is_some (due line year) then (if have_kept (line_of store letter line).kept year 0 (take (ages letter) (rows_of paid unpaid tabular)) then None else Some 13) else Some 10) else Some 8)
+  unfolding book_questions line_of
+  first_is = rw (line_is store letter line here, due_is store letter line year (line_limited store letter line here))
 
-  patterns_are : is_due line year ≡ true → have_kept (line_of store letter line).kept year 0 (take (ages letter) (rows_of paid unpaid tabular)) ≡ have_patterns line.kept (ages letter) unpaid tabular
-  patterns_are due =
-      let p = paired letter year paid unpaid tabular sound in
-      rw (due_last year line due)
-      (sym (have_patterns_is store letter line (line_limited store letter line here) (due_kept year line due) paid unpaid tabular (paid_rows letter year paid unpaid tabular sound) p.unpaid_rows p.tabular_rows))
+  patterns_are : (p : Patterns) → due line year ≡ Some p → have_kept (line_of store letter line).kept year 0 (take (ages letter) (rows_of paid unpaid tabular)) ≡ have_patterns p.count (ages letter) unpaid tabular
+  patterns_are p is_due =
+      let pairs = paired letter year paid unpaid tabular sound in
+      rw (due_last year line p is_due)
+      (sym (have_patterns_is store letter line (line_limited store letter line here) p (due_kept year line p is_due) paid unpaid tabular (paid_rows letter year paid unpaid tabular sound) pairs.unpaid_rows pairs.tabular_rows))
 
-  pub turned : line.declared ≡ true → (due : Bool) → due ≡ is_due line year → due ≡ true → Turned store line letter year paid unpaid tabular
-  turned d due ed t = record { sound = sound; here = here; declared = d; due = sym ed ∙ t }
+  module _ (given : Bool) (eg : given ≡ is_some line.opening) where
+    module _ (found : Option Patterns) (ef : found ≡ due line year) (d : given ≡ true) where
+      pub turned : (p : Patterns) → found ≡ Some p → Turned store line p letter year paid unpaid tabular
+      turned p ep = record { sound = sound; here = here; declared = sym eg ∙ d; is_due = sym ef ∙ ep }
 
-  module _ (r : Outcome) where
-    pub undeclared : line.declared ≡ false → r ≡ refused_of book refusal.NotDeclared → Settled book call store r store
-    undeclared d er = refused book refusal.NotDeclared (first_no (book_questions (view book store) call)) call store r (first_is ∙ rw d) er
+      pub out_of_turn : found ≡ None → (r : Outcome) → r ≡ refused_of book refusal.OutOfTurn → Settled book call store r store
+      out_of_turn en r er = refused book refusal.OutOfTurn (first_no (book_questions (view book store) call)) call store r (first_is ∙ rw (← ef, en, ← eg, d)) er
 
-    pub out_of_turn : line.declared ≡ true → (due : Bool) → due ≡ is_due line year → due ≡ false → r ≡ refused_of book refusal.OutOfTurn → Settled book call store r store
-    out_of_turn d due ed t er = refused book refusal.OutOfTurn (first_no (book_questions (view book store) call)) call store r (first_is ∙ rw (← ed, t, d)) er
+    pub undeclared : given ≡ false → (r : Outcome) → r ≡ refused_of book refusal.NotDeclared → Settled book call store r store
+    undeclared d r er = refused book refusal.NotDeclared (first_no (book_questions (view book store) call)) call store r (first_is ∙ rw (← eg, d)) er
 
-module _ (store : List ℕ) (line : Line) (letter year : ℕ) (paid : List ℤ) (unpaid tabular : List ℕ) (pre : Turned store line letter year paid unpaid tabular) where
+module _ (store : List ℕ) (line : Line) (p : Patterns) (letter year : ℕ) (paid : List ℤ) (unpaid tabular : List ℕ) (pre : Turned store line p letter year paid unpaid tabular) where
   pub turned_rows : Paired letter unpaid tabular
   turned_rows = paired letter year paid unpaid tabular pre.sound
 
-  by_patterns : (book : Book) (has : Bool) → has ≡ have_patterns line.kept (ages letter) unpaid tabular → first_no (book_questions (view book store) (close_year letter year paid unpaid tabular)) ≡ (if has then none else some 13)
+  by_patterns : (book : Book) (has : Bool) → has ≡ have_patterns p.count (ages letter) unpaid tabular → first_no (book_questions (view book store) (close_year letter year paid unpaid tabular)) ≡ (if has then None else Some 13)
   by_patterns book has eh =
       first_is book store letter year paid unpaid tabular pre.sound line pre.here
-      ∙ rw (patterns_are book store letter year paid unpaid tabular pre.sound line pre.here pre.due, ← eh, pre.due, pre.declared)
+      ∙ rw (patterns_are book store letter year paid unpaid tabular pre.sound line pre.here p pre.is_due, ← eh, pre.is_due, pre.declared)
 
-  module _ (has : Bool) (eh : has ≡ have_patterns line.kept (ages letter) unpaid tabular) where
+  module _ (has : Bool) (eh : has ≡ have_patterns p.count (ages letter) unpaid tabular) where
     pub no_pattern : has ≡ false → (book : Book) (r : Outcome) → r ≡ refused_of book refusal.NoPattern → Settled book (close_year letter year paid unpaid tabular) store r store
     no_pattern h book r er =
         refused book refusal.NoPattern (first_no (book_questions (view book store) (close_year letter year paid unpaid tabular))) (close_year letter year paid unpaid tabular) store r (by_patterns book has eh ∙ rw h) er
 
-    pub all_passed : has ≡ true → Passed store line letter year paid unpaid tabular
-    all_passed h = record { turned = pre; patterns = sym eh ∙ h }
+    pub all_passed : has ≡ true → Passed store line p letter year paid unpaid tabular
+    all_passed h = record { turned = pre; all_kept = sym eh ∙ h }
 
-pub passes : (store : List ℕ) (line : Line) (letter year : ℕ) (paid : List ℤ) (unpaid tabular : List ℕ) → Passed store line letter year paid unpaid tabular → (book : Book)
-    → first_no (book_questions (view book store) (close_year letter year paid unpaid tabular)) ≡ none
-passes store line letter year paid unpaid tabular pre book = by_patterns store line letter year paid unpaid tabular pre.turned book true (sym pre.patterns)
+pub passes : (store : List ℕ) (line : Line) (p : Patterns) (letter year : ℕ) (paid : List ℤ) (unpaid tabular : List ℕ) → Passed store line p letter year paid unpaid tabular → (book : Book)
+    → first_no (book_questions (view book store) (close_year letter year paid unpaid tabular)) ≡ None
+passes store line p letter year paid unpaid tabular pre book = by_patterns store line p letter year paid unpaid tabular pre.turned book true (sym pre.all_kept)

@@ -1,6 +1,6 @@
 -- What a year adds to a line's totals, and totals that it can be added to: within the limits of the last year of all.
 -- Assumes nothing: these are definitions.
-use Rattle.std.specs.Prelude.{◌≤◌, ℤ, nat_abs}
+use Rattle.std.specs.Prelude.{◌≤◌, ℤ, nat_abs, Some}
 use Rattle.line_limits.specs.declared.totals.Totals.{Totals}
 use Rattle.line_limits.specs.Totals.{most_a_year, Within}
 
@@ -9,5 +9,5 @@ pub record OfAYear (paid loss : ℤ) : Type 0 where
   pub loss_limit : nat_abs loss ≤ most_a_year
 
 pub record Growing (before : Totals) (paid loss : ℤ) : Type 0 where
-  pub within : Within 2099 before
+  pub within : Within (Some 2099) before
   pub year : OfAYear paid loss

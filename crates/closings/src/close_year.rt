@@ -1,20 +1,20 @@
 // "YEAR, letter, year, then paid, unpaid, tabular for each age, prior row last"
-ghost use Rattle.std.specs.Prelude.{true, ◌≡◌};
+ghost use Rattle.std.specs.Prelude.{◌≡◌};
 ghost use Rattle.model.specs.Call.{close_year};
 ghost use Rattle.model.specs.Question.{Sound};
 ghost use Rattle.model.specs.Step.{as_numbers};
 ghost use Rattle.ledger.specs.Does.{Does, Settled};
 ghost use Rattle.state.specs.Lines.{with_closing_of};
-ghost use Rattle.closings.specs.CloseYear.{is_due, opening_of, Turned, Passed};
+ghost use Rattle.closings.specs.CloseYear.{due, opening_of, Turned, Passed};
 
 use crate::rows::{have_patterns, row_factors};
 use crate::totals::add_year;
-use kinds::year::is_year;
+use kinds::year::Year;
 use ledger::accept::accept;
 use ledger::answer::{Answer, Outcome};
 use ledger::refuse::refuse;
 use letters::letter::is_covered;
-use line_limits::line::Line;
+use line_limits::line::{Line, Patterns};
 use refusal::Refusal;
 use reserve::year_end::year_end;
 use state::book::Book;
@@ -36,7 +36,7 @@ pub fn close_year(
 {
     if is_covered(letter) {
         if has_lengths(letter, paid, unpaid, tabular) {
-            if is_year(year) {
+            if Year::contains(year) {
                 if has_limits(paid, unpaid, tabular) {
                     return ask_declared(book, store, letter, year, paid, unpaid, tabular);
                 }
@@ -63,29 +63,28 @@ fn ask_declared(
     ensures { Settled book (close_year letter year paid.now unpaid.now tabular.now) store.old result store.new }
 {
     let line = line_of(store, letter);
-    if line.declared {
-        if is_due(line, year) {
-            return ask_patterns(book, store, line, letter, year, paid, unpaid, tabular);
-        }
-        return refuse(book, Refusal::OutOfTurn);
+    if line.opening.is_some() {
+        let Some(patterns) = due(line, year) else {
+            return refuse(book, Refusal::OutOfTurn);
+        };
+        return ask_patterns(
+            book, store, line, patterns, letter, year, paid, unpaid, tabular,
+        );
     }
     refuse(book, Refusal::NotDeclared)
 }
 
-// "is it the year of the last pattern, not yet closed?"
-fn is_due(line: Line, year: u64) -> bool
-    ensures { result ≡ is_due line year }
+// "is it the year of the last pattern, not yet closed?": the patterns of a year that is.
+#[tactic(auto, unfolding(crate::specs::CloseYear::due))]
+fn due(line: Line, year: u64) -> Option<Patterns>
+    ensures { result ≡ due line year }
 {
-    if line.kept == 0 {
-        return false;
+    let patterns = line.patterns?;
+    if year == patterns.last && line.closed.is_none_or(|closed| closed != year) {
+        Some(patterns)
+    } else {
+        None
     }
-    if year == line.last {
-        if is_year(line.closed) {
-            return line.closed != year;
-        }
-        return true;
-    }
-    false
 }
 
 // "13. YEAR: has every age row with gross above 0 a kept pattern?", and the year end.
@@ -93,17 +92,20 @@ fn ask_patterns(
     book: Book,
     store: &mut Store,
     line: Line,
+    patterns: Patterns,
     letter: u8,
     year: u64,
     paid: &[i64],
     unpaid: &[u64],
     tabular: &[u64],
 ) -> Outcome
-    requires { Turned store.old line letter year paid.now unpaid.now tabular.now }
+    requires { Turned store.old line patterns letter year paid.now unpaid.now tabular.now }
     ensures { Settled book (close_year letter year paid.now unpaid.now tabular.now) store.old result store.new }
 {
-    if have_patterns(letter, line, unpaid, tabular) {
-        return end_year(book, store, line, letter, year, paid, unpaid, tabular);
+    if have_patterns(letter, patterns, unpaid, tabular) {
+        return end_year(
+            book, store, line, patterns, letter, year, paid, unpaid, tabular,
+        );
     }
     refuse(book, Refusal::NoPattern)
 }
@@ -113,21 +115,21 @@ fn end_year(
     book: Book,
     store: &mut Store,
     line: Line,
+    patterns: Patterns,
     letter: u8,
     year: u64,
     paid: &[i64],
     unpaid: &[u64],
     tabular: &[u64],
 ) -> Outcome
-    requires { Passed store.old line letter year paid.now unpaid.now tabular.now }
+    requires { Passed store.old line patterns letter year paid.now unpaid.now tabular.now }
     ensures { Settled book (close_year letter year paid.now unpaid.now tabular.now) store.old result store.new }
 {
-    let factors = row_factors(store, letter, line);
+    let factors = row_factors(store, letter, patterns);
     let opening = opening_of(line);
-    let end = year_end(letter, paid, unpaid, tabular, &factors, opening);
-    let closing = end.closing;
+    let end = year_end(letter, paid, unpaid, tabular, &factors, opening).unwrap();
     add_year(store, letter, line.closed, year, end.paid, end.loss);
-    keep_line(store, letter, with_closing(line, year, closing));
+    keep_line(store, letter, with_closing(line, year, end.closing));
     accept(
         book,
         Answer::Tax {
@@ -135,7 +137,7 @@ fn end_year(
             year,
             paid: end.paid,
             opening,
-            closing,
+            closing: end.closing,
             loss: end.loss,
         },
     )
@@ -145,18 +147,20 @@ fn end_year(
 fn opening_of(line: Line) -> u64
     ensures { result ≡ opening_of line }
 {
-    if is_year(line.closed) {
-        return line.closing;
+    if line.closed.is_some() {
+        line.closing
+    } else {
+        line.opening.unwrap_or(0)
     }
-    line.opening
 }
 
 // The line with one more year closed.
 fn with_closing(line: Line, year: u64, closing: u64) -> Line
     ensures { result ≡ with_closing_of line year closing }
 {
-    let mut later = line;
-    later.closed = year;
-    later.closing = closing;
-    later
+    Line {
+        closed: Some(year),
+        closing,
+        ..line
+    }
 }

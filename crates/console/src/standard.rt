@@ -1,21 +1,22 @@
 // A run: standard input is read in pieces, and what a piece is answered is written before the next one is read. A read that fails ends the input; a write that fails ends the run.
-ghost use Rattle.std.specs.Prelude.{◌≡◌, true, false, ◌++◌, take};
+ghost use Rattle.std.specs.Prelude.{◌≡◌, true, Ok, [], ◌++◌, take, IfOk, OnOk, OnErr};
 ghost use Rattle.std.specs.Io.KnownBytes.{Consumes, Appends, IsAtEnd};
 ghost use Rattle.pieces.specs.Feed.{text_of};
-ghost use Rattle.console.specs.Take.{IsPrefixLen, TakesPiece, TakesPart, Led};
+ghost use Rattle.console.specs.Take.{IsPrefixLen, Takes, TakesPart, Led};
 ghost use Rattle.console.specs.Through.{Through};
 ghost use Rattle.console.specs.Write.{last_answer, last_counts};
 
-use crate::write::{write_answers, write_done, write_last};
-use pieces::feed::{Run, close, done, feed, start};
+use crate::write::{Asked, write_text};
+use arrayvec::ArrayVec;
+use pieces::feed::{Fed, Run, close, done, feed, start};
 use state::store::{CELLS, Store};
-use std::io::{ErrorKind, Read, Write};
+use std::io::{self, ErrorKind, Read, Write};
 
 pub fn run(rt: HostRuntime) {
     answer_all(&mut rt.stdin(), &mut rt.stdout());
 }
 
-// Whether the input was read to its end, and whether all that it is answered was written.
+// Whether the input was read to its end, and whether all that it is answered was written. These are two facts: after a read that fails all is still answered and written.
 #[derive(Clone, Copy)]
 pub struct Ended {
     pub read: bool,
@@ -30,100 +31,64 @@ pub fn answer_all<R: Read, W: Write>(input: &mut R, output: &mut W) -> Ended
     let mut store = [0u64; CELLS];
     let mut so_far = start(&mut store);
     let mut piece = [0u8; 65536];
-    let mut out = [0u8; 65536];
+    let mut out = ArrayVec::new();
     let mut read = false;
     // A proved loop has to end: no run makes so many turns.
     for _ in 0..u64::MAX {
-        let got = read_piece(input, &mut piece);
-        let n = got.count;
-        if n == 0 {
-            read = !got.failed;
-            break;
-        }
-        let taken = take_piece(so_far, &mut store, &piece[..n], &mut out, output);
-        let written = taken.written;
-        if written {
-            let later = taken.run;
-            so_far = later;
-        } else {
-            return Ended { read, written };
+        match read_piece(input, &mut piece) {
+            Ok(0) => {
+                read = true;
+                break;
+            }
+            Ok(n) => match take_piece(so_far, &mut store, &piece[..n], &mut out, output) {
+                Ok(later) => so_far = later,
+                Err(_) => return Ended {
+                    read,
+                    written: false,
+                },
+            },
+            Err(_) => break,
         }
     }
-    let written = finish(so_far, &mut store, &mut out, output);
+    let written = finish(so_far, &mut store, &mut out, output).is_ok();
     Ended { read, written }
 }
 
-// How many bytes were read, none at the end of input, and whether a read failed, which ends the input.
-#[derive(Clone, Copy)]
-struct Got {
-    count: usize,
-    failed: bool,
-}
-
-// A read that was only interrupted is made again.
-fn read_piece<R: Read>(input: &mut R, piece: &mut [u8; 65536]) -> Got
-    ensures count { IsPrefixLen result.count piece.new }
-    ensures bytes { Consumes (R.remaining input.old) (R.remaining input.new) (take result.count piece.new) }
-    ensures end { result.count ≡ 0 → result.failed ≡ false → IsAtEnd (R.remaining input.new) }
+// How many bytes were read, none at the end of input. A read that was only interrupted is made again.
+fn read_piece<R: Read>(input: &mut R, piece: &mut [u8; 65536]) -> io::Result<usize>
+    ensures count { IfOk result (λ n. IsPrefixLen n piece.new) }
+    ensures bytes { IfOk result (λ n. Consumes (R.remaining input.old) (R.remaining input.new) (take n piece.new)) }
+    ensures end { result ≡ Ok 0 → IsAtEnd (R.remaining input.new) }
+    ensures failed { OnErr result (Consumes (R.remaining input.old) (R.remaining input.new) []) }
 {
     for _ in 0..u64::MAX {
         match input.read(piece) {
-            Ok(count) => return Got {
-                count,
-                failed: false,
-            },
-            Err(e) => {
-                if e.kind() != ErrorKind::Interrupted {
-                    break;
-                }
-            }
+            Err(e) if e.kind() == ErrorKind::Interrupted => {}
+            ended => return ended,
         }
     }
-    Got {
-        count: 0,
-        failed: true,
-    }
+    Err(ErrorKind::Interrupted.into())
 }
 
-// The run after some bytes of a piece, how many they are, and whether what they are answered was written.
-#[derive(Clone, Copy)]
-struct Taken {
-    run: Run,
-    taken: usize,
-    written: bool,
-}
-
-// The whole piece, part after part, unless a write fails.
+// The whole piece, part after part: the run after it.
 fn take_piece<W: Write>(
     run: Run,
     store: &mut Store,
     piece: &[u8],
-    out: &mut [u8; 65536],
+    out: &mut ArrayVec<u8, 65536>,
     output: &mut W,
-) -> Taken
-    ensures takes { TakesPiece run store.old piece.now result store.new }
-    ensures written { result.written ≡ true → Appends (W.contents output.old) (W.contents output.new) (text_of run store.old (take result.taken piece.now)) }
+) -> io::Result<Run>
+    ensures takes { IfOk result (λ later. Takes run store.old piece.now later store.new) }
+    ensures written { OnOk result (Appends (W.contents output.old) (W.contents output.new) (text_of run store.old piece.now)) }
 {
     let mut last = run;
-    let mut at = 0;
-    while at < piece.len() {
-        let part = take_part(last, store, &piece[at..], out, output);
-        let later = part.run;
-        last = later;
-        at += part.taken;
-        if !part.written {
-            return Taken {
-                run: last,
-                taken: at,
-                written: false,
-            };
-        }
+    let mut rest = piece;
+    while !rest.is_empty() {
+        let fed = take_part(last, store, rest, out, output)?;
+        last = fed.run;
+        rest = &rest[fed.taken..];
     }
-    Taken {
-        run: last,
-        taken: at,
-        written: true,
-    }
+    Ok(last)
 }
 
 // As much of a piece as its answers have room for.
@@ -131,35 +96,32 @@ fn take_part<W: Write>(
     run: Run,
     store: &mut Store,
     piece: &[u8],
-    out: &mut [u8; 65536],
+    out: &mut ArrayVec<u8, 65536>,
     output: &mut W,
-) -> Taken
-    ensures takes { TakesPart run store.old piece.now result store.new }
-    ensures written { result.written ≡ true → Appends (W.contents output.old) (W.contents output.new) (text_of run store.old (take result.taken piece.now)) }
+) -> io::Result<Fed>
+    ensures takes { IfOk result (λ fed. TakesPart run store.old piece.now fed store.new) }
+    ensures written { IfOk result (λ fed. Appends (W.contents output.old) (W.contents output.new) (text_of run store.old (take fed.taken piece.now))) }
 {
     let before = *store;
     let fed = feed(run, store, piece, out);
-    let taken = fed.taken;
-    let written = write_answers(output, run, &before, &piece[..taken], out, fed.put);
-    let later = fed.run;
-    Taken {
-        run: later,
-        taken,
-        written,
-    }
+    let asked = Asked::Bytes(&piece[..fed.taken]);
+    write_text(output, out.as_slice(), asked, &run, &before)?;
+    Ok(fed)
 }
 
-// The last line, if one is open, and DONE. It answers whether both were written.
-fn finish<W: Write>(run: Run, store: &mut Store, out: &mut [u8; 65536], output: &mut W) -> bool
+// The last line, if one is open, and DONE.
+fn finish<W: Write>(
+    run: Run,
+    store: &mut Store,
+    out: &mut ArrayVec<u8, 65536>,
+    output: &mut W,
+) -> io::Result<()>
     requires { Led run store.old }
-    ensures { result ≡ true → Appends (W.contents output.old) (W.contents output.new) (last_answer run store.old ++ last_counts run store.old) }
+    ensures { OnOk result (Appends (W.contents output.old) (W.contents output.new) (last_answer run store.old ++ last_counts run store.old)) }
 {
     let before = *store;
-    let last = close(run, store, out);
-    if write_last(output, run, &before, out, last.next) {
-        let book = last.book;
-        let n = done(book, out);
-        return write_done(output, run, &before, out, n);
-    }
-    false
+    let book = close(run, store, out);
+    write_text(output, out.as_slice(), Asked::LastLine, &run, &before)?;
+    done(book, out);
+    write_text(output, out.as_slice(), Asked::Counts, &run, &before)
 }

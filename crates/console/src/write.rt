@@ -1,41 +1,30 @@
-// The program's texts. No contract can say what reaches standard output, so each function asks that what it is handed is right; of a writer whose bytes are known it says that they grow by just that.
-// (The run, the store before it and the bytes are there for the contracts alone.)
-ghost use Rattle.std.specs.Prelude.{◌≡◌, true};
+// The program's texts. No contract can say what reaches standard output, so a write asks that what it is handed is right; of a writer whose bytes are known it says that they grow by just that.
+ghost use Rattle.std.specs.Prelude.{◌≡◌, OnOk};
 ghost use Rattle.std.specs.Io.KnownBytes.{Appends};
-ghost use Rattle.pieces.specs.Feed.{text_of};
-ghost use Rattle.console.specs.Write.{Starts, last_answer, last_counts};
+ghost use Rattle.console.specs.Write.{text_for};
 
 use pieces::feed::Run;
 use state::store::Store;
-use std::io::Write;
+use std::io::{self, Write};
 
-// What some bytes are answered.
-pub fn write_answers<W: Write>(
+// What a text is for: some bytes, the last line, if one is open, or the end of the run: "DONE closes every run: accepted, refused."
+#[derive(Clone, Copy)]
+pub enum Asked<'a> {
+    Bytes(&'a [u8]),
+    LastLine,
+    Counts,
+}
+
+// (What is asked, the run and the store before it are there for the contract alone.)
+pub fn write_text<W: Write>(
     output: &mut W,
-    run: Run,
+    text: &[u8],
+    asked: Asked,
+    run: &Run,
     before: &Store,
-    bytes: &[u8],
-    out: &[u8],
-    n: usize,
-) -> bool
-    requires { Starts out.now n (text_of run before.now bytes.now) }
-    ensures { result ≡ true → Appends (W.contents output.old) (W.contents output.new) (text_of run before.now bytes.now) }
+) -> io::Result<()>
+    requires { text.now ≡ text_for asked run.now before.now }
+    ensures { OnOk result (Appends (W.contents output.old) (W.contents output.new) text.now) }
 {
-    output.write_all(&out[..n]).is_ok()
-}
-
-// What the last line is answered, if one is open.
-pub fn write_last<W: Write>(output: &mut W, run: Run, before: &Store, out: &[u8], n: usize) -> bool
-    requires { Starts out.now n (last_answer run before.now) }
-    ensures { result ≡ true → Appends (W.contents output.old) (W.contents output.new) (last_answer run before.now) }
-{
-    output.write_all(&out[..n]).is_ok()
-}
-
-// "DONE closes every run: accepted, refused."
-pub fn write_done<W: Write>(output: &mut W, run: Run, before: &Store, out: &[u8], n: usize) -> bool
-    requires { Starts out.now n (last_counts run before.now) }
-    ensures { result ≡ true → Appends (W.contents output.old) (W.contents output.new) (last_counts run before.now) }
-{
-    output.write_all(&out[..n]).is_ok()
+    output.write_all(text)
 }

@@ -1,82 +1,101 @@
 -- The steps from the payments at all ages to the kept pattern.
 -- Assumes nothing.
-use mathlib.Core.Path.{◌≡◌, refl, ap, ◌∙◌}
-use mathlib.Core.Bool.{true, false}
-use mathlib.Core.List.{List, ◌++◌}
-use Prim.Native.Nat.{ℕ, suc, ◌+◌, ◌-◌, ◌≤◌, ◌<◌}
+use mathlib.Core.Path.{◌≡◌, refl, ap, ◌∙◌, sym}
+use borrow.Author.Tests.{leb-true}
+use Rattle.model.specs.Kind.{is_rate}
+use mathlib.Core.Bool.{Bool, true, false}
+use mathlib.Core.List.{List, [], ◌++◌, append-nil}
+use Rattle.std.specs.Prelude.{if◌then◌else◌}
+use Prim.Native.Nat.{ℕ, ◌+◌, ◌-◌, ◌≤◌}
 use native.Mathlib.Omega.{arith}
-use native.Mathlib.Numerals.{add-one}
-use lib.ListN.{length, take, drop, get_or, set, replicate, take-append-drop, get_or-append}
-use lib.Seq.{take_all, take-suc, take-append-le, length-take-le, append_snoc, set_at}
+use lib.ListN.{length, take, drop, get_or, replicate, take-append-drop, get_or-append}
+use lib.Seq.{take_all, take-append-le, length-take-le}
 use Rattle.model.specs.Basics.{sum}
 use Rattle.model.specs.Letter.{ten_year, ages}
 use Rattle.model.specs.HalfYear.{half_year}
 use Rattle.model.specs.Pattern.{unpaid}
-use Rattle.model.specs.Factor.{factor, kept_factors}
+use Rattle.model.specs.Factor.{factor, factors, kept_factors}
 use Rattle.model.specs.Composite.{mean, composite}
 use Rattle.model.proofs.Lists.{sum_append}
 use Rattle.model.proofs.HalfYear.{half_year_small}
 use Rattle.model.proofs.Ages.{at_age, length_factors}
-use Rattle.refusal.specs.declared.Verdict.TheVariants.{Fine}
 use Rattle.payments.specs.Schedule.{all_ages}
-use Rattle.factor.specs.Composite.{Averaged}
+use Rattle.factor.specs.Composite.{Averaged, Composed}
 use Rattle.factor.specs.Walk.{Walkable, Walked}
 use Rattle.factor.specs.Pattern.{kept_of}
 
--- the copy of the first factors
-pub record Copying (fs kept : List ℕ) (i n : ℕ) : Type 0 where
-  pub inside : i ≤ n
-  pub few : n ≤ 10
-  pub places : length fs ≡ 16
-  pub all : kept ≡ take i fs ++ replicate (10 - i) 0
-
-pub copy_start : (fs : List ℕ) (n : ℕ) → n ≤ 10 → length fs ≡ 16 → Copying fs (replicate 10 0) 0 n
-copy_start fs n le l = record { inside = omega arith; few = le; places = l; all = refl }
-
-pub copy_on : (fs kept : List ℕ) (i n : ℕ) → Copying fs kept i n → i < n → Copying fs (set kept i (get_or fs i 0)) (i + 1) n
-copy_on fs kept i n c lt =
-    let e : 10 - i ≡ suc (10 - (i + 1)) = omega (arith, c.few) in
-    let l : length (take i fs) ≡ i = length-take-le i fs (omega (arith, c.few, c.places)) in
-    record {
-      inside = omega arith;
-      few = c.few;
-      places = c.places;
-      all = rw (c.all, e, set_at (take i fs) 0 (replicate (10 - (i + 1)) 0) (get_or fs i 0) i l, add-one i, take-suc fs i 0 (omega (arith, c.few, c.places)), append_snoc);
-    }
-
-pub copy_end : (fs kept : List ℕ) (i n : ℕ) → Copying fs kept i n → n ≤ i → kept ≡ take n fs ++ replicate (10 - n) 0
-copy_end fs kept i n c le = let e : i ≡ n = omega (arith, c.inside) in rw e at c.all
-
--- the payments at all ages, in their places
-pub ten_part : (letter : ℕ) (pay : List ℕ) → ten_year letter ≡ true → length pay ≡ 16 → take (all_ages letter) pay ≡ pay
-ten_part letter pay t n = rw t (take_all 16 pay (omega arith))
-
-pub two_part : (letter : ℕ) (pay : List ℕ) → ten_year letter ≡ false → take (all_ages letter) pay ≡ take 4 pay
-two_part letter pay t = rw t
+-- a line has at most sixteen ages
+pub count_small : (letter : ℕ) → all_ages letter ≤ 16
+count_small letter = by (ten_year letter)
+  where
+    by : (t : Bool) → (if t then 16 else 4) ≤ 16
+    by true = omega arith
+    by false = omega arith
 
 pub part_small : (n : ℕ) (pay : List ℕ) → unpaid (take n pay) ≤ unpaid pay
 part_small n pay = omega (arith, sum_append (take n pay) (drop n pay), ap sum (take-append-drop n pay))
 
 -- what the walk and the mean are given
-pub walkable : (R half number : ℕ) (pay out : List ℕ) → half ≡ half_year R → number ≡ R → R ≤ 2500 → length out ≡ length pay → unpaid pay ≤ 200000000 → Walkable pay 0 half number out
-walkable R half number pay out eh en le same part =
-    record { inside = omega arith; same = same; part = part; small_half = omega (arith, eh, half_year_small R); small_rate = omega arith }
+pub walkable : (letter R half number : ℕ) (pay : List ℕ) → half ≡ half_year R → is_rate number ≡ true → length pay ≡ 16 → unpaid pay ≤ 200000000
+    → Walkable (take (all_ages letter) pay) 0 half number (take (all_ages letter) (replicate 16 0))
+walkable letter R half number pay eh r n part =
+    let s = count_small letter in
+    record {
+      inside = omega arith;
+      same = length-take-le (all_ages letter) (replicate 16 0) (omega arith) ∙ sym (length-take-le (all_ages letter) pay (omega arith));
+      part = omega (arith, part_small (all_ages letter) pay);
+      small_half = omega (arith, eh, half_year_small R);
+      small_rate = leb-true number 2500 r;
+    }
 
-pub averaged : (R half number : ℕ) (pay out fs : List ℕ) (u f : ℕ) → half ≡ half_year R → length pay ≡ 16 → unpaid pay ≤ 200000000 → Walked pay 0 half number out fs u f → Averaged pay fs half number
-averaged R half number pay out fs u f eh n part w = record { count = n; whole = part; are = w.all; small_half = omega (arith, eh, half_year_small R) }
+-- the places after a line's ages are zeros
+pub zeros_after : (letter : ℕ) → drop {A = ℕ} (all_ages letter) (replicate 16 0) ≡ replicate (16 - all_ages letter) 0
+zeros_after letter = by (ten_year letter)
+  where
+    by : (t : Bool) → drop {A = ℕ} (if t then 16 else 4) (replicate 16 0) ≡ replicate (16 - (if t then 16 else 4)) 0
+    by true = refl
+    by false = refl
+
+-- the composite is given the walk's factors, in their places
+pub composed : (letter R half number : ℕ) (pay out fs all : List ℕ) (u f : ℕ) → half ≡ half_year R → length pay ≡ 16 → unpaid pay ≤ 200000000 → Walked (take (all_ages letter) pay) 0 half number out fs u f
+    → all ≡ fs ++ drop {A = ℕ} (all_ages letter) (replicate 16 0) → Composed letter pay all half number
+composed letter R half number pay out fs all u f eh n part w e = record { count = n; whole = part; are = rw (← zeros_after letter) (e ∙ ap (λ (x : List ℕ). x ++ drop {A = ℕ} (all_ages letter) (replicate 16 0)) w.all); small_half = omega (arith, eh, half_year_small R) }
+
+-- of a ten-year line, the mean is given all of them
+pub averaged : (letter half rate : ℕ) (pay fs : List ℕ) → ten_year letter ≡ true → Composed letter pay fs half rate → Averaged pay fs half rate
+averaged letter half rate pay fs t g =
+    let all : fs ≡ factors half (10000 + rate) (take 16 pay) ++ [] = rw t at g.are in
+    record { count = g.count; whole = g.whole; are = all ∙ append-nil (factors half (10000 + rate) (take 16 pay)) ∙ ap (factors half (10000 + rate)) (take_all 16 pay (omega (arith, g.count))); small_half = g.small_half }
+
+-- and of a two-year line, the composite is the factor of age 3
+pub age_three : (letter half rate : ℕ) (pay fs : List ℕ) → ten_year letter ≡ false → Composed letter pay fs half rate → get_or fs 2 0 ≡ factor half (10000 + rate) (drop 3 (take 4 pay))
+age_three letter half rate pay fs t g =
+    let D : ℕ = 10000 + rate in
+    let ages : List ℕ = take 4 pay in
+    let n : length ages ≡ 4 = length-take-le 4 pay (omega (arith, g.count)) in
+    let all : fs ≡ factors half D ages ++ replicate 12 0 = rw t at g.are in
+    rw (all, get_or-append (factors half D ages) (replicate 12 0) 0 2 (omega (arith, length_factors half D ages, n))) (at_age half D ages 2 (omega (arith, n)))
 
 -- what is kept of the walk's factors
-pub ten_kept : (letter R half number : ℕ) (pay out fs first : List ℕ) (u f mixed : ℕ) → ten_year letter ≡ true → half ≡ half_year R → number ≡ R → Walked pay 0 half number out fs u f
-    → first ≡ take 10 fs ++ replicate (10 - 10) 0 → mixed ≡ mean half (10000 + number) 5 (drop 11 pay) → record { verdict = Fine; factors = first; composite = mixed } ≡ kept_of letter R pay
-unfolding kept_factors composite ages
-ten_kept letter R half number pay out fs first u f mixed t eh en w ef em = rw (t, ef, em, w.all, eh, en)
+module _ (letter R half number : ℕ) (pay out fs all first : List ℕ) (u f mixed : ℕ) (eh : half ≡ half_year R) (en : number ≡ R) (n : length pay ≡ 16) (w : Walked (take (all_ages letter) pay) 0 half number out fs u f) (ea : all ≡ fs ++ drop {A = ℕ} (all_ages letter) (replicate 16 0))
+    (ef : first ≡ take (ages letter) all ++ replicate (10 - ages letter) 0) (em : mixed ≡ (if ten_year letter then mean half (10000 + number) 5 (drop 11 pay) else factor half (10000 + number) (drop 3 (take 4 pay)))) where
+  by_kind : (t : Bool) → ten_year letter ≡ t → record { factors = first; composite = mixed } ≡ kept_of letter R (take (all_ages letter) pay)
+  unfolding kept_factors composite ages
+  by_kind true t =
+      let p : take 16 pay ≡ pay = take_all 16 pay (omega arith) in
+      let in_places : all ≡ fs ++ [] = rw t at ea in
+      let firsts : first ≡ take 10 all ++ replicate 0 0 = rw t at ef in
+      let mean_is : mixed ≡ mean half (10000 + number) 5 (drop 11 pay) = rw t at em in
+      let walked : fs ≡ factors half (10000 + number) (take 16 pay) = rw t at w.all in
+      rw (t, firsts, in_places, append-nil fs, walked, p, mean_is, eh, en)
+  by_kind false t =
+      let in_places : all ≡ fs ++ replicate 12 0 = rw t at ea in
+      let firsts : first ≡ take 2 all ++ replicate 8 0 = rw t at ef in
+      let age_three_is : mixed ≡ factor half (10000 + number) (drop 3 (take 4 pay)) = rw t at em in
+      let walked : fs ≡ factors half (10000 + number) (take 4 pay) = rw t at w.all in
+      let l : length fs ≡ 4 = ap length walked ∙ length_factors half (10000 + number) (take 4 pay) ∙ length-take-le 4 pay (omega arith) in
+      let k : take 2 all ≡ take 2 fs = rw in_places (take-append-le 2 fs (replicate 12 0) (omega arith)) in
+      rw (t, firsts, k, walked, age_three_is, eh, en)
 
-pub two_kept : (letter R half number : ℕ) (pay out fs all first : List ℕ) (u f : ℕ) → ten_year letter ≡ false → half ≡ half_year R → number ≡ R → length pay ≡ 4 → Walked pay 0 half number out fs u f → all ≡ fs ++ replicate 12 0
-    → first ≡ take 2 all ++ replicate (10 - 2) 0 → record { verdict = Fine; factors = first; composite = get_or all 2 0 } ≡ kept_of letter R pay
-unfolding kept_factors composite ages
-two_kept letter R half number pay out fs all first u f t eh en n w ea ef =
-    let D : ℕ = 10000 + number in
-    let l : length fs ≡ 4 = ap length w.all ∙ length_factors half D pay ∙ n in
-    let k : take 2 all ≡ take 2 fs = rw ea (take-append-le 2 fs (replicate 12 0) (omega arith)) in
-    let m : get_or all 2 0 ≡ factor half D (drop 3 pay) = rw ea (get_or-append fs (replicate 12 0) 0 2 (omega arith) ∙ ap (λ (x : List ℕ). get_or x 2 0) w.all ∙ at_age half D pay 2 (omega arith)) in
-    rw (t, ef, m, k, w.all, eh, en)
+  pub kept : record { factors = first; composite = mixed } ≡ kept_of letter R (take (all_ages letter) pay)
+  kept = by_kind (ten_year letter) refl

@@ -2,29 +2,16 @@
 -- Assumes nothing.
 use mathlib.Core.Path.{◌≡◌, sym, ap, ◌∙◌}
 use mathlib.Core.List.{List, [], ◌∷◌, ◌++◌, append-nil}
-use Prim.Native.Nat.{ℕ, ◌+◌, ◌*◌, ◌≤◌, ◌<◌}
+use Prim.Native.Nat.{ℕ, ◌+◌, ◌<◌}
 use native.Mathlib.Omega.{arith}
-use native.Mathlib.Nat.{mul-le-mul_left, mul-le-mul}
 use native.Mathlib.Numerals.{add-one}
 use lib.ListN.{length, take, drop, get_or, set}
 use lib.Seq.{drop-length, take-length, take-suc, length-take-le, append_snoc, set_at}
 use Rattle.model.specs.Pattern.{unpaid}
-use Rattle.model.specs.Factor.{year_back, worked_back, factor, factors}
+use Rattle.model.specs.Factor.{worked_back, factor, factors}
 use Rattle.model.proofs.Lists.{drop_next}
-use Rattle.model.proofs.FactorBounds.{year_back_at_most, factor_at_most}
+use Rattle.model.proofs.FactorBounds.{factor_at_most}
 use Rattle.factor.specs.Walk.{Weighable, Walkable, Walked}
-
--- what the products are at most: the sum that is divided fits
-pub record Weighed (p v next back half : ℕ) : Type 0 where
-  pub all : (p + v) * half ≤ 2000000000000000000
-  pub payment_back : p * back ≤ p * half
-  pub later_back : v * back ≤ v * half
-  pub later_next : v * next ≤ v * half
-
-pub weighed : (p v next half rate : ℕ) → Weighable p v next half rate → Weighed p v next (year_back (10000 + rate) next) half
-weighed p v next half rate w =
-    let b : year_back (10000 + rate) next ≤ half = year_back_at_most half (10000 + rate) next (omega arith) w.small_next in
-    record { all = omega (arith, mul-le-mul w.part w.small_half); payment_back = mul-le-mul_left p b; later_back = mul-le-mul_left v b; later_next = mul-le-mul_left v w.small_next }
 
 -- no age is left
 pub done : (pay : List ℕ) (at half rate : ℕ) (out : List ℕ) → Walkable pay at half rate out → at ≡ length pay → Walked pay at half rate out out 0 half

@@ -1,20 +1,20 @@
 -- The fields of a line, one after the other.
 -- Assumes nothing.
 use Rattle.std.specs.Prelude.{if◌then◌else◌}
+use Rattle.std.specs.List.{filter}
 use mathlib.Core.Bool.{Bool, true, false}
 use mathlib.Core.Path.{◌≡◌, refl, sym, ap, ◌∙◌}
 use mathlib.Core.List.{List, [], ◌∷◌}
-use Prim.Native.Nat.{ℕ, suc, ◌+◌, ◌-◌, ◌≤◌, ◌<◌}
+use Prim.Native.Nat.{ℕ, suc, ◌+◌, ◌-◌, ◌≤◌, ◌<◌, min}
 use native.Mathlib.Omega.{arith, by_contra}
-use borrow.Author.Tests.{ne_eqb}
+use borrow.Author.Tests.{eq-eqb, ne_eqb, eqb-true, eqb-false}
 use lib.Dec.{eqb}
-use lib.ListN.{length, take, drop, get_or, drop_of_length-le, length-drop}
+use lib.ListN.{length, take, drop, length-take, length-drop}
 use lib.Seq.{drop-drop, take_all}
 use Rattle.model.specs.Input.{push}
 use Rattle.model.specs.Field.{fields, field}
-use Rattle.model.proofs.Lists.{drop_next}
 use Rattle.field.specs.Place.{At, Starts}
-use Rattle.field.proofs.Scan.{before, first_field}
+use Rattle.field.proofs.Scan.{is_tab, before, first_field}
 
 fields_cons : (b : ℕ) (bs : List ℕ) → fields (b ∷ bs) ≡ (if eqb b 9 then [] ∷ fields bs else push b (fields bs))
 unfolding fields
@@ -41,40 +41,24 @@ push_long : (b : ℕ) (fs : List (List ℕ)) → 0 < length fs → length (push 
 push_long b [] h = absurd (omega arith)
 push_long b (f ∷ fs) h = refl
 
--- how many fields are passed
-pub record Counting (s : List ℕ) (n i : ℕ) : Type 0 where
-  pub inside : i ≤ length s
-  pub few : n ≤ i + 1
-  pub rest : length (fields s) + 1 ≡ n + length (fields (drop i s))
+-- there is a field more than there are tabs
+tabs_by : (b : ℕ) (bs : List ℕ) (t : Bool) → eqb b 9 ≡ t → length (filter is_tab bs) + 1 ≡ length (fields bs) → length (filter is_tab (b ∷ bs)) + 1 ≡ length (fields (b ∷ bs))
+unfolding fields
+tabs_by b bs true e h = rw e (omega arith)
+tabs_by b bs false e h = rw (e, push_long b (fields bs) (omega arith)) h
 
-pub count_start : (s : List ℕ) → Counting s 1 0
-count_start s = record { inside = omega arith; few = omega arith; rest = omega arith }
+pub tabs : (s : List ℕ) → length (filter is_tab s) + 1 ≡ length (fields s)
+unfolding fields
+tabs [] = refl
+tabs (b ∷ bs) = tabs_by b bs (eqb b 9) refl (tabs bs)
 
-pub count_tab : (s : List ℕ) (n i m : ℕ) → Counting s n i → i < length s → get_or s i 0 ≡ 9 → m ≡ n + 1 → Counting s m (i + 1)
-count_tab s n i m h lt e q =
-    let a : length (fields (drop i s)) ≡ suc (length (fields (drop (i + 1) s))) = rw (drop_next s i 0 lt, fields_cons (get_or s i 0) (drop (i + 1) s), e) in
-    record { inside = omega arith; few = omega (arith, h.few); rest = omega (arith, h.rest) }
+-- so many fields: of the tabs one is looked at that would be too many
+as_many_by : (s : List ℕ) (few n : ℕ) (t : Bool) → n ≡ min few (length (filter is_tab s)) → eqb (length (fields s)) few ≡ t → eqb (n + 1) few ≡ t
+as_many_by s few n true e q = eq-eqb (n + 1) few (omega (arith, tabs s, eqb-true (length (fields s)) few q))
+as_many_by s few n false e q = ne_eqb (n + 1) few (λ (z : n + 1 ≡ few). eqb-false (length (fields s)) few q (omega (arith, tabs s)))
 
-pub count_other : (s : List ℕ) (n i m : ℕ) → Counting s n i → i < length s → (get_or s i 0 ≡ 9 → ⊥) → m ≡ n → Counting s m (i + 1)
-count_other s n i m h lt e q =
-    let a : length (fields (drop i s)) ≡ length (fields (drop (i + 1) s)) =
-    rw (drop_next s i 0 lt, fields_cons (get_or s i 0) (drop (i + 1) s), ne_eqb (get_or s i 0) 9 e) (push_long (get_or s i 0) (fields (drop (i + 1) s)) (some_field (drop (i + 1) s))) in
-    record { inside = omega arith; few = omega (arith, h.few); rest = omega (arith, h.rest) }
-
-pub count_end : (s : List ℕ) (n i : ℕ) → Counting s n i → length s ≤ i → n ≡ length (fields s)
-count_end s n i h le =
-    let a : length (fields (drop i s)) ≡ 1 = rw (drop_of_length-le s le, fields_nil) in
-    omega (arith, h.rest)
-
--- a tab after as many fields as are expected: there are more
-pub one_too_many : (s : List ℕ) (n i expected : ℕ) → Counting s n i → i < length s → get_or s i 0 ≡ 9 → n ≡ expected → false ≡ eqb (length (fields s)) expected
-one_too_many s n i expected h lt e q =
-    let next : Counting s (n + 1) (i + 1) = count_tab s n i (n + 1) h lt e refl in
-    let more : length (fields s) ≡ expected → ⊥ = λ x. omega (arith, next.rest, some_field (drop (i + 1) s)) in
-    sym (ne_eqb (length (fields s)) expected more)
-
-pub as_many : (s : List ℕ) (n i expected : ℕ) → Counting s n i → length s ≤ i → eqb n expected ≡ eqb (length (fields s)) expected
-as_many s n i expected h le = ap (λ (k : ℕ). eqb k expected) (count_end s n i h le)
+pub as_many : (s : List ℕ) (few n : ℕ) → n ≡ length (take few (filter is_tab s)) → eqb (n + 1) few ≡ eqb (length (fields s)) few
+as_many s few n e = as_many_by s few n (eqb (length (fields s)) few) (rw length-take at e) refl
 
 -- the first field is the part before the first tab, and the others are those of what comes after the tab
 record Parted (s : List ℕ) : Type 0 where
@@ -111,14 +95,14 @@ pub rest_of : (s : List ℕ) (at : ℕ) (f : List ℕ) → f ≡ field 0 (fields
 rest_of s at f e = e ∙ rw (rest_whole s at) (first_field (drop at s))
 
 -- one field on
-pub next_field : (s : List ℕ) (fs : List (List ℕ)) (at : ℕ) (f : List ℕ) → At s fs at → f ≡ field 0 (fields (take (length s - at) (drop at s))) → 1 < length fs → At s (drop 1 fs) (at + length f + 1)
+pub next_field : (s : List ℕ) (fs : List (List ℕ)) (at : ℕ) (f : List ℕ) → At s fs at → f ≡ field 0 (fields (take (length s - at) (drop at s))) → 1 < length fs → At s (drop 1 fs) (at + (length f + 1))
 next_field s fs at f h ef lt =
     let r = split (drop at s) (rw h.there lt) in
     rw (rest_of s at f ef)
     record {
       inside = omega (arith, r.within, length-drop at s, h.inside);
       there =
-          let e : at + length (before (drop at s)) + 1 ≡ at + suc (length (before (drop at s))) = omega arith in
+          let e : at + (length (before (drop at s)) + 1) ≡ at + suc (length (before (drop at s))) = omega arith in
           rw (e, ← drop-drop (suc (length (before (drop at s)))) at s) (ap (λ (gs : List (List ℕ)). drop 1 gs) (sym r.parts ∙ h.there));
     }
 
@@ -152,13 +136,13 @@ module _ (s : List ℕ) (k at : ℕ) (h : Starts s k at) where
 
   -- one field on
   module _ (le : at ≤ length s) (f : List ℕ) (ef : f ≡ field 0 (fields (take (length s - at) (drop at s)))) where
-    last : length (fields s) ≤ k + 1 → at + length f + 1 ≡ suc (length s)
+    last : length (fields s) ≤ k + 1 → at + (length f + 1) ≡ suc (length s)
     last few =
         let lt = has_field le in
         let n : length (fields (drop at s)) ≤ 1 = rw (h.here lt).there (omega (arith, length-drop k (fields s))) in
         omega (arith, ap length (rest_of s at f ef), ap length (alone (drop at s) n), length-drop at s)
 
-    pub next_starts : Starts s (k + 1) (at + length f + 1)
+    pub next_starts : Starts s (k + 1) (at + (length f + 1))
     next_starts =
         record {
           here = λ lt. rw (← drop-drop 1 k (fields s)) (next_field s (drop k (fields s)) at f (h.here (has_field le)) ef (omega (arith, length-drop k (fields s))));
@@ -174,13 +158,5 @@ pub pass_start : (s : List ℕ) (place : ℕ) → Passing s place 0 0
 pass_start s place = record { upto = omega arith; starts = first_starts s }
 
 module _ (s : List ℕ) (place at k : ℕ) (p : Passing s place at k) where
-  pub pass_none : length s < at → Starts s place at
-  pass_none lt =
-      let n = no_field s k at p.starts lt in
-      record { here = λ l. absurd (omega (arith, n, p.upto)); past = λ l. p.starts.past n }
-
-  pub pass_on : at ≤ length s → (f : List ℕ) → f ≡ field 0 (fields (take (length s - at) (drop at s))) → k < place → Passing s place (at + length f + 1) (k + 1)
+  pub pass_on : at ≤ length s → (f : List ℕ) → f ≡ field 0 (fields (take (length s - at) (drop at s))) → k < place → Passing s place (at + (length f + 1)) (k + 1)
   pass_on le f ef lt = record { upto = omega arith; starts = next_starts s k at p.starts le f ef }
-
-  pub pass_end : place ≤ k → Starts s place at
-  pass_end le = let e : place ≡ k = omega (arith, p.upto) in rw e p.starts

@@ -1,19 +1,22 @@
--- The loop over bytes: the first tab.
+-- The first tab.
 -- Assumes nothing.
-use Rattle.std.specs.Prelude.{if◌then◌else◌}
-use mathlib.Core.Bool.{Bool, true, false}
-use mathlib.Core.Path.{◌≡◌, refl, ◌∙◌}
-use mathlib.Core.List.{List, [], ◌∷◌, ◌++◌, append-nil}
-use Prim.Native.Nat.{ℕ, ◌+◌, ◌≤◌, ◌<◌}
+use Rattle.std.specs.Prelude.{if◌then◌else◌, Option, None, Some}
+use Rattle.std.specs.List.{position_or_len}
+use mathlib.Core.Bool.{Bool, true, false, cond}
+use mathlib.Core.Path.{◌≡◌, refl, sym, ap}
+use mathlib.Core.List.{List, [], ◌∷◌}
+use Prim.Native.Nat.{ℕ, suc, ◌+◌}
 use native.Mathlib.Omega.{arith}
-use native.Mathlib.Numerals.{add-one}
-use borrow.Author.Tests.{ne_eqb}
-use lib.Dec.{eqb}
-use lib.ListN.{length, take, drop, get_or, drop_of_length-le}
-use lib.Seq.{take-suc, take_all, append_snoc}
+use borrow.Author.Tests.{ltb-false}
+use lib.Dec.{eqb, ltb}
+use lib.ListN.{length, take}
+use lib.Seq.{take_all}
 use Rattle.model.specs.Input.{push}
 use Rattle.model.specs.Field.{fields, field}
-use Rattle.model.proofs.Lists.{drop_next}
+use Rattle.model.proofs.Lists.{Some≢None}
+
+abbrev pub is_tab : ℕ → Bool
+is_tab b = eqb b 9
 
 -- the part before the first tab
 abbrev pub before : List ℕ → List ℕ
@@ -34,23 +37,31 @@ unfolding fields
 first_field [] = refl
 first_field (b ∷ bs) = first_by b (fields bs) (before bs) (eqb b 9) (first_field bs)
 
--- the first tab is at i or after
-pub record Scanned (s : List ℕ) (i : ℕ) : Type 0 where
-  pub inside : i ≤ length s
-  pub passed : before s ≡ take i s ++ before (drop i s)
+-- up to the first tab's place, or whole where there is none
+to_tab_by : (b : ℕ) (bs : List ℕ) (t : Bool) → eqb b 9 ≡ t → before bs ≡ take (position_or_len is_tab bs) bs → before (b ∷ bs) ≡ take (position_or_len is_tab (b ∷ bs)) (b ∷ bs)
+to_tab_by b bs true e h = rw e
+to_tab_by b bs false e h =
+    let next : 1 + position_or_len is_tab bs ≡ suc (position_or_len is_tab bs) = omega arith in
+    rw (e, next) (ap (λ (l : List ℕ). b ∷ l) h)
 
-pub scan_start : (s : List ℕ) → Scanned s 0
-scan_start s = record { inside = omega arith; passed = refl }
+to_tab : (s : List ℕ) → before s ≡ take (position_or_len is_tab s) s
+to_tab [] = refl
+to_tab (b ∷ bs) = to_tab_by b bs (eqb b 9) refl (to_tab bs)
 
-pub scan_stop : (s : List ℕ) (i : ℕ) → Scanned s i → i < length s → get_or s i 0 ≡ 9 → take i s ≡ field 0 (fields s)
-scan_stop s i h lt e = rw (first_field s, h.passed, drop_next s i 0 lt, e, append-nil)
+-- what `position` answers
+abbrev Found : List ℕ → Option ℕ → Bool → Type 0
+Found s found inside = found ≡ cond inside (Some (position_or_len is_tab s)) None
 
-pub scan_on : (s : List ℕ) (i : ℕ) → Scanned s i → i < length s → (get_or s i 0 ≡ 9 → ⊥) → Scanned s (i + 1)
-scan_on s i h lt n =
-    record {
-      inside = omega arith;
-      passed = h.passed ∙ rw (drop_next s i 0 lt, ne_eqb (get_or s i 0) 9 n, add-one, take-suc s i 0 lt, append_snoc);
-    }
+pub first_is : (s : List ℕ) (place : ℕ) → Found s (Some place) (ltb (position_or_len is_tab s) (length s)) → take place s ≡ field 0 (fields s)
+first_is s place e = is_by (ltb (position_or_len is_tab s) (length s)) e
+  where
+    is_by : (t : Bool) → Found s (Some place) t → take place s ≡ field 0 (fields s)
+    is_by true q = let same : place ≡ position_or_len is_tab s = cc in rw (first_field s, to_tab s, same)
+    is_by false q = absurd (Some≢None place q)
 
-pub scan_end : (s : List ℕ) (i : ℕ) → Scanned s i → length s ≤ i → s ≡ field 0 (fields s)
-scan_end s i h le = rw (first_field s, h.passed, drop_of_length-le s le, append-nil, take_all i s le)
+pub first_whole : (s : List ℕ) → Found s None (ltb (position_or_len is_tab s) (length s)) → s ≡ field 0 (fields s)
+first_whole s e = whole_by (ltb (position_or_len is_tab s) (length s)) refl e
+  where
+    whole_by : (t : Bool) → ltb (position_or_len is_tab s) (length s) ≡ t → Found s None t → s ≡ field 0 (fields s)
+    whole_by true q e = absurd (Some≢None (position_or_len is_tab s) (sym e))
+    whole_by false q e = rw (first_field s, to_tab s) (sym (take_all (position_or_len is_tab s) s (ltb-false (position_or_len is_tab s) (length s) q)))

@@ -7,47 +7,29 @@ ghost use Rattle.field.specs.Place.{Starts};
 pub fn first(rest: &[u8]) -> &[u8]
     ensures { result.now ≡ field 0 (fields rest.now) }
 {
-    let mut i = 0;
-    while i < rest.len() {
-        if rest[i] == b'\t' {
-            return &rest[..i];
-        }
-        i += 1;
+    match rest.iter().position(|byte| *byte == b'\t') {
+        Some(tab) => &rest[..tab],
+        None => rest,
     }
-    rest
 }
 
 // How many fields the line has.
 pub fn count(line: &[u8]) -> usize
     ensures { result ≡ length (fields line.now) }
 {
-    let mut n: usize = 1;
-    let mut i = 0;
-    while i < line.len() {
-        if line[i] == b'\t' {
-            n += 1;
-        }
-        i += 1;
-    }
-    n
+    line.iter().filter(|byte| **byte == b'\t').count() + 1
 }
 
 // Has the line that many fields? It is not gone over past the first that is too many.
 pub fn has_fields(line: &[u8], expected: usize) -> bool
     ensures { result ≡ eqb (length (fields line.now)) expected }
 {
-    let mut found: usize = 1;
-    let mut at = 0;
-    while at < line.len() {
-        if line[at] == b'\t' {
-            if found == expected {
-                return false;
-            }
-            found += 1;
-        }
-        at += 1;
-    }
-    found == expected
+    let tabs = line
+        .iter()
+        .filter(|byte| **byte == b'\t')
+        .take(expected)
+        .count();
+    tabs + 1 == expected
 }
 
 // Where the field at place `place` begins; past the line's end where there is none.
@@ -55,14 +37,11 @@ pub fn start(line: &[u8], place: usize) -> usize
     ensures { Starts line.now place result }
 {
     let mut at = 0;
-    let mut k = 0;
-    while k < place {
+    for _ in 0..place {
         if at > line.len() {
             return at;
         }
-        let f = first(&line[at..]);
-        at = at + f.len() + 1;
-        k += 1;
+        at += first(&line[at..]).len() + 1;
     }
     at
 }

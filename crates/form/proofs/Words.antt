@@ -1,82 +1,62 @@
--- The six words, the forms of RATE, and the letter.
+-- The six words, and the letter that is none.
 -- Assumes nothing.
+use Rattle.std.specs.Prelude.{None}
 use mathlib.Core.Bool.{Bool, true, false}
 use mathlib.Core.Path.{◌≡◌, refl, ap, ◌∙◌}
 use mathlib.Core.List.{List, [], ◌∷◌}
-use Prim.Native.Nat.{ℕ, ◌-◌, ◌≤◌, ◌<◌}
-use native.Mathlib.Omega.{arith}
+use Prim.Native.Nat.{ℕ}
 use lib.Dec.{eqb}
-use lib.ListN.{length, take, drop, get_or, get_or-eq_default}
-use lib.Seq.{get_or-drop}
+use lib.Pointwise.{pointwise}
 use Rattle.model.specs.Basics.{same, bytes}
-use Rattle.model.specs.Field.{fields, field, only_byte, letter_in}
-use Rattle.model.specs.Record.{LINE, RATE, RATE_ALONE, PATT, YEAR, SUM, MIDT, OTHER, word_of, form_of}
-use Rattle.form.specs.Word.{named}
-use Rattle.form.specs.declared.word.Word as code
-use Rattle.form.specs.declared.word.Word.TheVariants.{Rate}
-use Rattle.field.specs.Place.{Starts}
-use Rattle.field.proofs.Scan.{before, first_field}
-use Rattle.field.proofs.Fields.{rest_of, has_field, no_field}
+use Rattle.model.specs.Letter.{ten_year, two_year}
+use Rattle.model.specs.Record.{LINE, RATE, PATT, YEAR, SUM, MIDT, OTHER, word_of}
+use Rattle.form.specs.Request.{covered_letter}
 
-module _ (f : List ℕ) (a : Bool) (ea : a ≡ same f (bytes "LINE")) where
+-- the code's `==` on bytes
+equal_bytes : (x y : List ℕ) → pointwise eqb x y ≡ same x y
+equal_bytes [] [] = refl
+equal_bytes [] (b ∷ y) = refl
+equal_bytes (a ∷ x) [] = refl
+equal_bytes (a ∷ x) (b ∷ y) = rw (equal_bytes x y)
+
+told : (f word text : List ℕ) (t : Bool) → t ≡ pointwise eqb f word → word ≡ text → t ≡ same f text
+told f word text t e w = e ∙ equal_bytes f word ∙ ap (same f) w
+
+module _ (f : List ℕ) (a : Bool) (aw : List ℕ) (ae : a ≡ pointwise eqb f aw) (at : aw ≡ bytes "LINE") where
   pub is_line : a ≡ true → LINE ≡ word_of f
   unfolding word_of
-  is_line q = rw (← ea, q)
+  is_line q = rw (← told f aw (bytes "LINE") a ae at, q)
 
-  module _ (a0 : a ≡ false) (b : Bool) (eb : b ≡ same f (bytes "RATE")) where
+  module _ (a0 : a ≡ false) (b : Bool) (bw : List ℕ) (be : b ≡ pointwise eqb f bw) (bt : bw ≡ bytes "RATE") where
     pub is_rate_lem : b ≡ true → RATE ≡ word_of f
     unfolding word_of
-    is_rate_lem q = rw (← ea, a0, ← eb, q)
+    is_rate_lem q = rw (← told f aw (bytes "LINE") a ae at, a0, ← told f bw (bytes "RATE") b be bt, q)
 
-    module _ (b0 : b ≡ false) (c : Bool) (ec : c ≡ same f (bytes "PATT")) where
+    module _ (b0 : b ≡ false) (c : Bool) (cw : List ℕ) (ce : c ≡ pointwise eqb f cw) (ct : cw ≡ bytes "PATT") where
       pub is_patt : c ≡ true → PATT ≡ word_of f
       unfolding word_of
-      is_patt q = rw (← ea, a0, ← eb, b0, ← ec, q)
+      is_patt q = rw (← told f aw (bytes "LINE") a ae at, a0, ← told f bw (bytes "RATE") b be bt, b0, ← told f cw (bytes "PATT") c ce ct, q)
 
-      module _ (c0 : c ≡ false) (d : Bool) (ed : d ≡ same f (bytes "YEAR")) where
+      module _ (c0 : c ≡ false) (d : Bool) (dw : List ℕ) (de : d ≡ pointwise eqb f dw) (dt : dw ≡ bytes "YEAR") where
         pub is_year_lem : d ≡ true → YEAR ≡ word_of f
         unfolding word_of
-        is_year_lem q = rw (← ea, a0, ← eb, b0, ← ec, c0, ← ed, q)
+        is_year_lem q = rw (← told f aw (bytes "LINE") a ae at, a0, ← told f bw (bytes "RATE") b be bt, b0, ← told f cw (bytes "PATT") c ce ct, c0, ← told f dw (bytes "YEAR") d de dt, q)
 
-        module _ (d0 : d ≡ false) (e : Bool) (ee : e ≡ same f (bytes "SUM")) where
+        module _ (d0 : d ≡ false) (e : Bool) (ew : List ℕ) (ee : e ≡ pointwise eqb f ew) (et : ew ≡ bytes "SUM") where
           pub is_sum : e ≡ true → SUM ≡ word_of f
           unfolding word_of
-          is_sum q = rw (← ea, a0, ← eb, b0, ← ec, c0, ← ed, d0, ← ee, q)
+          is_sum q = rw (← told f aw (bytes "LINE") a ae at, a0, ← told f bw (bytes "RATE") b be bt, b0, ← told f cw (bytes "PATT") c ce ct, c0, ← told f dw (bytes "YEAR") d de dt, d0, ← told f ew (bytes "SUM") e ee et, q)
 
-          module _ (e0 : e ≡ false) (g : Bool) (eg : g ≡ same f (bytes "MIDT")) where
+          module _ (e0 : e ≡ false) (g : Bool) (gw : List ℕ) (ge : g ≡ pointwise eqb f gw) (gt : gw ≡ bytes "MIDT") where
             pub is_midt : g ≡ true → MIDT ≡ word_of f
             unfolding word_of
-            is_midt q = rw (← ea, a0, ← eb, b0, ← ec, c0, ← ed, d0, ← ee, e0, ← eg, q)
+            is_midt q = rw (← told f aw (bytes "LINE") a ae at, a0, ← told f bw (bytes "RATE") b be bt, b0, ← told f cw (bytes "PATT") c ce ct, c0, ← told f dw (bytes "YEAR") d de dt, d0, ← told f ew (bytes "SUM") e ee et, e0, ← told f gw (bytes "MIDT") g ge gt, q)
 
             pub is_other : g ≡ false → OTHER ≡ word_of f
             unfolding word_of
-            is_other q = rw (← ea, a0, ← eb, b0, ← ec, c0, ← ed, d0, ← ee, e0, ← eg, q)
+            is_other q = rw (← told f aw (bytes "LINE") a ae at, a0, ← told f bw (bytes "RATE") b be bt, b0, ← told f cw (bytes "PATT") c ce ct, c0, ← told f dw (bytes "YEAR") d de dt, d0, ← told f ew (bytes "SUM") e ee et, e0, ← told f gw (bytes "MIDT") g ge gt, q)
 
--- the form of a record, by the code's word
-module _ (word : code.Word) (n : ℕ) where
-  pub rate_alone : word ≡ Rate → (t : Bool) → t ≡ eqb n 2 → t ≡ true → RATE_ALONE ≡ form_of (named word) n
-  rate_alone e t et t1 = rw (e, ← et, t1)
-
-  pub rate_long : word ≡ Rate → (t : Bool) → t ≡ eqb n 2 → t ≡ false → RATE ≡ form_of (named word) n
-  rate_long e t et t0 = rw (e, ← et, t0)
-
-pub byte_one : (f : List ℕ) → length f ≡ 1 → get_or f 0 0 ≡ only_byte f
-byte_one [] e = refl
-byte_one (b ∷ []) e = refl
-byte_one (b ∷ c ∷ bs) e = absurd (omega arith)
-
-pub byte_none : (f : List ℕ) → (length f ≡ 1 → ⊥) → 0 ≡ only_byte f
-byte_none [] n = refl
-byte_none (b ∷ []) n = absurd (n refl)
-byte_none (b ∷ c ∷ bs) n = refl
-
--- the second field
-module _ (s : List ℕ) (at : ℕ) (h : Starts s 1 at) where
-  pub letter_none : length s < at → 0 ≡ letter_in (fields s)
-  letter_none lt = rw (get_or-eq_default (fields s) [] (no_field s 1 at h lt))
-
-  pub letter_is : at ≤ length s → (f : List ℕ) → f ≡ field 0 (fields (take (length s - at) (drop at s))) → (r : ℕ) → r ≡ only_byte f → r ≡ letter_in (fields s)
-  letter_is le f ef r er =
-      let a = h.here (has_field s 1 at h le) in
-      let e : before (drop at s) ≡ field 1 (fields s) = rw (← first_field (drop at s), a.there, get_or-drop 1 (fields s) 0 []) in
-      er ∙ ap only_byte (rest_of s at f ef ∙ e)
+-- 0 is no letter
+pub uncovered : (letter : ℕ) → 0 ≡ letter → None ≡ covered_letter letter
+unfolding ten_year two_year
+uncovered letter e = rw (← e)

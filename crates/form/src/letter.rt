@@ -1,45 +1,28 @@
 // "But for RATE: is the second field a covered letter? (no second field is a no)": the letter that the second field is.
-ghost use Rattle.std.specs.Prelude.{◌≡◌};
-ghost use Rattle.model.specs.Field.{fields, only_byte, letter_in};
-ghost use Rattle.form.specs.Word.{named, is_lettered};
+ghost use Rattle.std.specs.Prelude.{◌≡◌, eqb, is_some, length, unwrap_or};
+ghost use Rattle.model.specs.Field.{fields, field, only_byte, letter_in};
 
-use crate::word::Word;
 use field::field::{first, start};
-use letters::letter::is_covered;
 
-// The byte that a field is; 0, which is no letter, for a field of another length.
-fn only_byte(field: &[u8]) -> u8
-    ensures { result ≡ only_byte field.now }
+// The byte that a field is; none, for a field of another length.
+fn only_byte(field: &[u8]) -> Option<u8>
+    ensures byte { unwrap_or result 0 ≡ only_byte field.now }
+    ensures alone { is_some result ≡ eqb (length field.now) 1 }
 {
-    if field.len() == 1 {
-        return field[0];
+    match field {
+        [byte] => Some(*byte),
+        _ => None,
     }
-    0
 }
 
-// The letter of a record; 0 where there is none.
-pub fn letter_of(line: &[u8]) -> u8
-    ensures { result ≡ letter_in (fields line.now) }
+// The letter of a record: the byte that its second field is, if it is one.
+pub fn letter_of(line: &[u8]) -> Option<u8>
+    ensures letter { unwrap_or result 0 ≡ letter_in (fields line.now) }
+    ensures alone { is_some result ≡ eqb (length (field 1 (fields line.now))) 1 }
 {
     let at = start(line, 1);
     if at > line.len() {
-        return 0;
+        return None;
     }
     only_byte(first(&line[at..]))
-}
-
-// "But for RATE: is the second field a covered letter?"
-pub fn is_lettered(word: Word, letter: u8) -> bool
-    ensures { result ≡ is_lettered (named word) letter }
-{
-    match word {
-        Word::Line => is_covered(letter),
-        Word::Rate => true,
-        Word::RateAlone => true,
-        Word::Patt => is_covered(letter),
-        Word::Year => is_covered(letter),
-        Word::Sum => is_covered(letter),
-        Word::Midt => true,
-        Word::Other => false,
-    }
 }

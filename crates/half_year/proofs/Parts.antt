@@ -2,14 +2,15 @@
 -- Assumes nothing.
 use mathlib.Core.Path.{◌≡◌, sym}
 use mathlib.Core.Bool.{Bool, true, false}
-use Prim.Native.Nat.{ℕ, ◌+◌, ◌-◌, ◌*◌, ◌/◌, ◌%◌, ◌<◌, ◌≤◌, min}
+use Prim.Native.Nat.{ℕ, ◌+◌, ◌-◌, ◌*◌, ◌/◌, ◌%◌, ◌<◌, ◌≤◌}
 use native.Mathlib.Nat.{mul-le-mul, mul-le-mul_right}
 use native.Mathlib.Omega.{arith}
-use borrow.Author.Tests.{ltb-true, ltb-false, lt-ltb, le-ltb, le-leb, lt-leb}
+use borrow.Author.Tests.{leb-true, ltb-true, ltb-false, lt-ltb, le-ltb, le-leb, lt-leb}
 use lib.Dec.{ltb}
 use mir.Syntax.{w64}
 use mir.Val.{Fits}
 use Rattle.model.specs.HalfYear.{square_limit}
+use Rattle.model.specs.Kind.{is_rate}
 use Rattle.half_year.specs.SquareRule.{is_half_year}
 
 -- the constants of the code: 2 to the 16th and to the 32nd, and 10 to the 24th in its two parts
@@ -39,11 +40,8 @@ above_one R h l =
     let d : 10000 ≤ 10000 + R = omega arith in
     too_large R h (omega (arith, mul-le-mul (mul-le-mul l l) d))
 
--- n is the rate's number, and h is asked
-module _ (n value h : ℕ) (e : n ≡ min value 2500) where
-  abbrev R : ℕ
-  R = min value 2500
-
+-- n is the number of the rate R, and h is asked
+module _ (n R h : ℕ) (e : n ≡ R) (rate : is_rate n ≡ true) where
   abbrev D : ℕ
   D = 10000 + n
 
@@ -77,7 +75,7 @@ module _ (n value h : ℕ) (e : n ≡ min value 2500) where
 
   -- the products fit
   divisor_most : D ≤ 12500
-  divisor_most = omega (arith, e)
+  divisor_most = omega (arith, leb-true n 2500 rate)
 
   low_most : low ≤ 65535
   low_most = omega arith
@@ -112,7 +110,7 @@ module _ (n value h : ℕ) (e : n ≡ min value 2500) where
   pub high_too_small : h ≤ 10000000000 → part_squared ≤ left_high → false ≡ is_half_year R h
   high_too_small s l =
       let p : h + 1 ≤ (high + 1) * part = omega arith in
-      rw (← e) (too_small n h (omega (arith, mul-le-mul_right D (mul-le-mul p p), mul-le-mul (high_most s) divisor_most)))
+      rw (← e) (too_small n h (omega (arith, mul-le-mul_right D (mul-le-mul p p), mul-le-mul (high_most s) divisor_most, divisor_most)))
 
   pub low_too_large : high_product ≤ limit_high → left < low_product → false ≡ is_half_year R h
   low_too_large s l = rw (← e) (too_large n h (omega (arith, products)))

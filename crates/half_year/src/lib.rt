@@ -6,7 +6,6 @@ mod table;
 
 ghost use Rattle.std.specs.Prelude.{◌≡◌, true};
 ghost use Rattle.model.specs.HalfYear.{half_year};
-ghost use Rattle.kinds.specs.Rate.{rate_number};
 ghost use Rattle.half_year.specs.SquareRule.{are_half_years};
 
 use crate::square_rule::is_half_year;
@@ -14,7 +13,7 @@ use kinds::rate::Rate;
 
 // The half-year factor of a rate, from the table.
 pub fn half_year(rate: Rate) -> u64
-    ensures { result ≡ half_year (rate_number rate) }
+    ensures { result ≡ half_year rate }
 {
     let number = rate.number();
     let entries = all_entries();
@@ -30,7 +29,7 @@ fn all_entries() -> [u64; 2501]
 
 // The same factor. The hint, any number, spares the table where it is that factor.
 pub fn half_year_with_hint(rate: Rate, hint: u64) -> u64
-    ensures { result ≡ half_year (rate_number rate) }
+    ensures { result ≡ half_year rate }
 {
     if is_half_year(rate, hint) {
         return hint;

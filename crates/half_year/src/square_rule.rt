@@ -1,10 +1,10 @@
 // "For rate R, H is the largest whole number with H × H × (10000 + R) at most 10 to the 24th.": asked of a number, in 64 bits.
 ghost use Rattle.std.specs.Prelude.{◌≡◌};
-ghost use Rattle.kinds.specs.Rate.{rate_number};
 ghost use Rattle.half_year.specs.SquareRule.{is_half_year};
 
-use kinds::factor::Factor;
+use kinds::factor::FactorLimits;
 use kinds::rate::Rate;
+use kinds::within::Limits;
 
 // 2 to the 16th: a number is high × PART + low.
 const PART: u64 = 65536;
@@ -21,9 +21,9 @@ const LIMIT_LOW: u64 = 2701131776;
 // Is this the half-year factor of the rate? Its square is high × high × PART_SQUARED + low × (2 × half - low). Both products with 10000 + R
 // are taken off the limit in turn. What is left must be too little for the step to the next number, whose square is 2 × half + 1 larger.
 pub fn is_half_year(rate: Rate, half: u64) -> bool
-    ensures { result ≡ is_half_year (rate_number rate) half }
+    ensures { result ≡ is_half_year rate half }
 {
-    if half > Factor::ONE {
+    if half > FactorLimits::MOST {
         return false;
     }
     let divisor = 10000 + rate.number();

@@ -1,8 +1,8 @@
 -- Requests that the code does one after the other, from an empty book, leave the model's book, the code's own book and the whole store, and demand 3.
 -- Assumes nothing.
+use Rattle.std.specs.Prelude.{None}
 use mathlib.Core.List.{List, [], ◌∷◌, ◌++◌}
 use mathlib.Core.Path.{◌≡◌, refl, sym, ap, ◌∙◌}
-use mathlib.Core.Option as option
 use Prim.Native.Nat.{ℕ}
 use lib.ListN.{length}
 use Rattle.model.specs.Answer.{Answer, rated, summed}
@@ -75,7 +75,7 @@ leaves requests answers book store done =
 
 -- F-2, "The figures equal the sums over the accepted YEAR records of that line": what the code answers an accepted SUM after the list
 pub sum_answered : (requests : List Request) (answers : List Answer) (book : Book) (store : List ℕ) → DoneInTurn requests answers book store
-    → (request : Request) (letter : ℕ) → asked request ≡ totals letter → first_no (questions (view book store) request) ≡ option.none → (r : Outcome) (later : List ℕ) → Does book request store r later
+    → (request : Request) (letter : ℕ) → asked request ≡ totals letter → first_no (questions (view book store) request) ≡ None → (r : Outcome) (later : List ℕ) → Does book request store r later
     → answered r.answer later ≡ summed letter (length (years_in (accepted model.empty requests) letter)) (paid_in (accepted model.empty requests) letter) (losses_in (accepted model.empty requests) letter)
 sum_answered requests answers book store done request letter e passed r later does =
     let c = come requests answers book store done in
@@ -83,7 +83,7 @@ sum_answered requests answers book store done request letter e passed r later do
 
 -- F-4: what the code answers an accepted RATE with a year alone after the list: the rate of its sixty accepted MIDTs
 pub rate_answered : (requests : List Request) (answers : List Answer) (book : Book) (store : List ℕ) → DoneInTurn requests answers book store
-    → (request : Request) (year : ℕ) → asked request ≡ set_rate_from_register year → first_no (questions (view book store) request) ≡ option.none → (r : Outcome) (later : List ℕ) → Does book request store r later
+    → (request : Request) (year : ℕ) → asked request ≡ set_rate_from_register year → first_no (questions (view book store) request) ≡ None → (r : Outcome) (later : List ℕ) → Does book request store r later
     → answered r.answer later ≡ rated year (rate_of (taken_in (accepted model.empty requests) year))
 rate_answered requests answers book store done request year e passed r later does =
     let c = come requests answers book store done in

@@ -7,6 +7,7 @@ ghost use Rattle.ledger.specs.Does.{Does};
 
 use crate::column::{column, payments};
 use closings::close_year::close_year;
+use form::request::Request;
 use ledger::answer::Outcome;
 use ledger::declare::declare;
 use ledger::refuse::refuse;
@@ -16,7 +17,6 @@ use mid_term::register_month::register_month;
 use mid_term::set_rate_from_register::set_rate_from_register;
 use patterns::add_pattern::add_pattern;
 use record::read::read;
-use record::request::Asked;
 use state::book::Book;
 use state::store::Store;
 use totals::totals;
@@ -27,18 +27,15 @@ pub fn apply(book: Book, store: &mut Store, line: &[u8]) -> Outcome
 {
     let mut minus = [false; 62];
     let mut sizes = [0u64; 62];
-    let request = read(line, &mut minus, &mut sizes);
-    let letter = request.letter;
-    let asked = request.asked;
-    match asked {
-        Asked::Refused(refusal) => refuse(book, refusal),
-        Asked::Declare => declare(book, store, letter, sizes[2]),
-        Asked::SetRate => set_rate(book, store, sizes[1], &sizes[2..62]),
-        Asked::AddPattern => apply_pattern(book, store, letter, &sizes),
-        Asked::CloseYear => apply_year(book, store, letter, &minus, &sizes),
-        Asked::Totals => totals(book, store, letter),
-        Asked::RegisterMonth => register_month(book, store, sizes[1], sizes[2], sizes[3]),
-        Asked::SetRateFromRegister => set_rate_from_register(book, store, sizes[1]),
+    match read(line, &mut minus, &mut sizes) {
+        Err(refusal) => refuse(book, refusal),
+        Ok(Request::Declare(letter)) => declare(book, store, letter, sizes[2]),
+        Ok(Request::SetRate) => set_rate(book, store, sizes[1], &sizes[2..62]),
+        Ok(Request::AddPattern(letter)) => apply_pattern(book, store, letter, &sizes),
+        Ok(Request::CloseYear(letter)) => apply_year(book, store, letter, &minus, &sizes),
+        Ok(Request::Totals(letter)) => totals(book, store, letter),
+        Ok(Request::RegisterMonth) => register_month(book, store, sizes[1], sizes[2], sizes[3]),
+        Ok(Request::SetRateFromRegister) => set_rate_from_register(book, store, sizes[1]),
     }
 }
 
@@ -49,7 +46,14 @@ fn apply_pattern(book: Book, store: &mut Store, letter: u8, sizes: &[u64; 62]) -
     let n = ages(letter);
     let paid = column(sizes, 3, 2, n);
     let incurred = column(sizes, 4, 2, n);
-    add_pattern(book, store, letter, sizes[2], &paid[..n], &incurred[..n])
+    add_pattern(
+        book,
+        store,
+        letter,
+        sizes[2],
+        paid.as_slice(),
+        incurred.as_slice(),
+    )
 }
 
 // "YEAR, letter, year, then paid, unpaid, tabular for each age, prior row last": by the line's ages, and the prior row.
@@ -72,8 +76,8 @@ fn apply_year(
         store,
         letter,
         sizes[2],
-        &paid[..n],
-        &unpaid[..n],
-        &tabular[..n],
+        paid.as_slice(),
+        unpaid.as_slice(),
+        tabular.as_slice(),
     )
 }

@@ -1,20 +1,23 @@
 // The numbers of a line, each at its field's place, taken apart: the columns of a pattern and of a year.
-ghost use Rattle.std.specs.Prelude.{◌≡◌, ◌++◌, ◌-◌, ◌≤◌, pos, replicate};
+ghost use Rattle.std.specs.Prelude.{◌≡◌, ◌≤◌};
 ghost use Rattle.numbers.specs.Number.{most};
 ghost use Rattle.record.specs.Column.{each, whole, size_at, paid_at};
 ghost use Rattle.record.specs.Asks.{Low};
 
-// n numbers, the first at a place and each a step after the one before, and zeros.
-pub fn column(sizes: &[u64; 62], place: usize, step: usize, n: usize) -> [u64; 11]
+use arrayvec::ArrayVec;
+
+// A column: a number for each age, and one for the prior row.
+pub type Column<T> = ArrayVec<T, 11>;
+
+// n numbers, the first at a place and each a step after the one before.
+pub fn column(sizes: &[u64; 62], place: usize, step: usize, n: usize) -> Column<u64>
     requires { (place ≤ 5) × (step ≤ 3) × (n ≤ 11) }
-    ensures { result ≡ each (size_at sizes.now) n step place ++ replicate (11 - n) 0 }
+    ensures { result.items ≡ each (size_at sizes.now) n step place }
 {
-    let mut list = [0u64; 11];
-    let mut i = 0;
-    while i < n {
+    let mut list = Column::new();
+    for i in 0..n {
         let at = place + i * step;
-        list[i] = sizes[at];
-        i += 1;
+        list.push(sizes[at]);
     }
     list
 }
@@ -24,25 +27,18 @@ fn paid_of(minus: bool, size: u64) -> i64
     requires { size ≤ most }
     ensures { result ≡ whole minus size }
 {
-    let paid = size as i64;
-    if minus {
-        return 0 - paid;
-    }
-    paid
+    if minus { -(size as i64) } else { size as i64 }
 }
 
-// The paid of n rows of a year, and zeros.
-pub fn payments(minus: &[bool; 62], sizes: &[u64; 62], n: usize) -> [i64; 11]
+// The paid of n rows of a year.
+pub fn payments(minus: &[bool; 62], sizes: &[u64; 62], n: usize) -> Column<i64>
     requires { (n ≤ 11) × Low n sizes.now }
-    ensures { result ≡ each (paid_at minus.now sizes.now) n 3 3 ++ replicate (11 - n) (pos 0) }
+    ensures { result.items ≡ each (paid_at minus.now sizes.now) n 3 3 }
 {
-    let mut list = [0i64; 11];
-    let mut i = 0;
-    while i < n {
+    let mut list = Column::new();
+    for i in 0..n {
         let at = 3 + i * 3;
-        let paid = paid_of(minus[at], sizes[at]);
-        list[i] = paid;
-        i += 1;
+        list.push(paid_of(minus[at], sizes[at]));
     }
     list
 }

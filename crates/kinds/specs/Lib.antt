@@ -1,5 +1,2 @@
 pub mod Factor
-pub mod Month
-pub mod Rate
-pub mod RegisterYear
-pub mod Year
+pub mod Within

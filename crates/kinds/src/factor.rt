@@ -1,37 +1,25 @@
 // "Factors are kept in units of the tenth decimal, so 1 is 10,000,000,000.": a kept factor is at most 1.
-ghost use Rattle.std.specs.Prelude.{◌≡◌};
-ghost use Rattle.kinds.specs.Factor.{maybe_factor, factor_number};
+ghost use Rattle.kinds.specs.Factor.{is_factor};
+ghost use Rattle.kinds.specs.Within.{at_most};
+
+use crate::within::{Limits, Within};
 
 #[derive(Clone, Copy)]
-pub struct Factor {
-    value: u64,
+pub struct FactorLimits;
+
+impl Limits for FactorLimits {
+    const LEAST: u64 = 0;
+
+    // 1, in units of the tenth decimal.
+    const MOST: u64 = 10000000000;
+
+    ghost LEAST = { 0 };
+
+    ghost MOST = { 10000000000 };
+
+    ghost allow = { is_factor };
+
+    ghost limits = { at_most 10000000000 };
 }
 
-#[derive(Clone, Copy)]
-pub enum MaybeFactor {
-    Within(Factor),
-    Outside,
-}
-
-impl Factor {
-    pub const ONE: u64 = 10000000000;
-
-    // The factor that n is, or that it is none.
-    pub fn new(n: u64) -> MaybeFactor
-        ensures { result ≡ maybe_factor n }
-    {
-        if n <= Factor::ONE {
-            MaybeFactor::Within(Factor { value: n })
-        } else {
-            MaybeFactor::Outside
-        }
-    }
-
-    // Its number: at most 1, whatever the field holds. (Only `new` makes one.)
-    pub fn number(self) -> u64
-        ensures { result ≡ factor_number self }
-    {
-        let n = self.value;
-        if n <= Factor::ONE { n } else { Factor::ONE }
-    }
-}
+pub type Factor = Within<FactorLimits>;

@@ -5,4 +5,5 @@ pub mod factor;
 pub mod month;
 pub mod rate;
 pub mod register_year;
+pub mod within;
 pub mod year;

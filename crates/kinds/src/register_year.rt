@@ -1,45 +1,24 @@
 // F-4: "A record MIDT with year (1980 to 2099)": a year of the register of monthly rates.
-ghost use Rattle.std.specs.Prelude.{◌≡◌};
+ghost use Rattle.std.specs.Prelude.{refl};
 ghost use Rattle.model.specs.Kind.{is_register_year};
-ghost use Rattle.kinds.specs.RegisterYear.{maybe_register_year};
+
+use crate::within::{Limits, Within};
 
 #[derive(Clone, Copy)]
-pub struct RegisterYear {
-    value: u64,
+pub struct RegisterYearLimits;
+
+impl Limits for RegisterYearLimits {
+    const LEAST: u64 = 1980;
+
+    const MOST: u64 = 2099;
+
+    ghost LEAST = { 1980 };
+
+    ghost MOST = { 2099 };
+
+    ghost allow = { is_register_year };
+
+    ghost limits = { λ n. refl };
 }
 
-#[derive(Clone, Copy)]
-pub enum MaybeRegisterYear {
-    Within(RegisterYear),
-    Outside,
-}
-
-impl RegisterYear {
-    pub const FIRST: u64 = 1980;
-
-    pub const LAST: u64 = 2099;
-
-    // The year of the register that n is, or that it is none.
-    pub fn new(n: u64) -> MaybeRegisterYear
-        ensures { result ≡ maybe_register_year n }
-    {
-        if n < RegisterYear::FIRST {
-            return MaybeRegisterYear::Outside;
-        }
-        if n <= RegisterYear::LAST {
-            MaybeRegisterYear::Within(RegisterYear { value: n })
-        } else {
-            MaybeRegisterYear::Outside
-        }
-    }
-}
-
-// "year (1980 to 2099)"
-pub fn is_register_year(n: u64) -> bool
-    ensures { result ≡ is_register_year n }
-{
-    match RegisterYear::new(n) {
-        MaybeRegisterYear::Within(_) => true,
-        MaybeRegisterYear::Outside => false,
-    }
-}
+pub type RegisterYear = Within<RegisterYearLimits>;

@@ -1,10 +1,9 @@
 -- LINE.
 -- Assumes nothing.
-use Rattle.std.specs.Prelude.{if◌then◌else◌}
+use Rattle.std.specs.Prelude.{if◌then◌else◌, None, Some, is_some}
 use mathlib.Core.Bool.{Bool, true, false}
 use mathlib.Core.List.{List}
 use mathlib.Core.Path.{◌≡◌, refl, sym, ◌∙◌}
-use mathlib.Core.Option.{none, some}
 use Prim.Native.Nat.{ℕ}
 use borrow.Author.Tests.{leb-true}
 use lib.ListN.{length}
@@ -28,27 +27,28 @@ use Rattle.ledger.proofs.Settling.{refused, limits_refused}
 use Rattle.state.proofs.Limited.{new_limited}
 use Rattle.state.proofs.LinePieces.{register_same}
 use Rattle.state.proofs.TotalPieces.{zeros_where_none_closed}
-use Rattle.state.proofs.Views.{lines_put, declared_is}
+use Rattle.state.proofs.Views.{lines_put, line_is}
 
 -- question 7
 module _ (book : Book) (letter opening : ℕ) (sound : Sound (declare letter opening)) (store : List ℕ) (line : Line) (here : line ≡ line_at store letter) (r : Outcome) where
-  first_is : (t : Bool) → line.declared ≡ t → first_no (book_questions (view book store) (declare letter opening)) ≡ (if t then some 7 else none)
-  unfolding book_questions
-  first_is true d = rw (declared_is store letter line here, d)
-  first_is false d = rw (declared_is store letter line here, d)
+  first_is : (t : Bool) → is_some line.opening ≡ t → first_no (book_questions (view book store) (declare letter opening)) ≡ (if t then Some 7 else None)
+  unfolding book_questions line_of
+  first_is true e = rw (line_is store letter line here, e)
+  first_is false e = rw (line_is store letter line here, e)
 
-  pub given_refused : line.declared ≡ true → r ≡ refused_of book refusal.AlreadyGiven → Settled book (declare letter opening) store r store
-  given_refused d er = refused book refusal.AlreadyGiven (first_no (book_questions (view book store) (declare letter opening))) (declare letter opening) store r (first_is true d) er
+  module _ (given : Bool) (eg : given ≡ is_some line.opening) where
+    pub given_refused : given ≡ true → r ≡ refused_of book refusal.AlreadyGiven → Settled book (declare letter opening) store r store
+    given_refused d er = refused book refusal.AlreadyGiven (first_no (book_questions (view book store) (declare letter opening))) (declare letter opening) store r (first_is true (sym eg ∙ d)) er
 
-  pub declared : line.declared ≡ false → length store ≡ size → (later : List ℕ) → later ≡ with_line_of store letter (new_line opening) → r ≡ accepted_of book (answer.Line letter opening) → Settled book (declare letter opening) store r later
-  unfolding accept book_settled store_settled line_of kept_back
-  declared d n later el er =
-      rw (first_is false d, er, el)
-      record {
-        outcome = rw (register_same store letter (new_line opening) sound.letter n, lines_put store letter (new_line opening) sound.letter n (new_limited letter opening (leb-true opening 100000000000 sound.limits)), zeros_where_none_closed store letter);
-        own = refl;
-        lent = refl;
-      }
+    pub declared : given ≡ false → length store ≡ size → (later : List ℕ) → later ≡ with_line_of store letter (new_line opening) → r ≡ accepted_of book (answer.Line letter opening) → Settled book (declare letter opening) store r later
+    unfolding accept book_settled store_settled line_of kept_back
+    declared d n later el er =
+        rw (first_is false (sym eg ∙ d), er, el)
+        record {
+          outcome = rw (register_same store letter (new_line opening) sound.letter n, lines_put store letter (new_line opening) sound.letter n (new_limited letter opening (leb-true opening 100000000000 sound.limits)), zeros_where_none_closed store letter);
+          own = refl;
+          lent = refl;
+        }
 
 -- questions 3 and 6
 module _ (letter opening : ℕ) (lettered : Bool) (el : lettered ≡ covered letter) (l : lettered ≡ true) (limited : Bool) (eo : limited ≡ is_opening opening) where

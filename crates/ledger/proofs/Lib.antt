@@ -1,4 +1,3 @@
-pub mod Conditions
 pub mod Declared
 pub mod RateSet
 pub mod Settling

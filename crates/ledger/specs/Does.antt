@@ -1,8 +1,6 @@
 -- What every public call promises: the model's outcome, and the code's own later book and the whole later store.
 -- Assumes nothing: these are definitions.
-use Rattle.std.specs.Prelude.{List, ◌≡◌, ℕ}
-use Rattle.std.proofs.Math.Option.{Option, none, some}
-use Rattle.model.specs.Basics.{or_default}
+use Rattle.std.specs.Prelude.{List, ◌≡◌, ℕ, Option, None, Some, unwrap_or}
 use Rattle.model.specs.HalfYear.{half_year}
 use Rattle.model.specs.Pattern.{ages_of}
 use Rattle.model.specs.Rate.{rate_of}
@@ -28,33 +26,33 @@ use Rattle.ledger.specs.Answer.{outcome_of, one_more_refused, one_more_accepted}
 -- the code's own book after a call of which `first` is the first question answered no, if any, where `book` is the model's book before it
 -- a refusal changes the refused count alone, and RATE its year's place besides the count
 unfoldable pub book_settled : Option ℕ → model.Book → Call → Book → Book
-book_settled (some question) book call own = one_more_refused own
-book_settled none book (declare letter opening) own = one_more_accepted own
-book_settled none book (set_rate year months) own = one_more_accepted (with_rate_of own year (rate_of months))
-book_settled none book (add_pattern letter year paid incurred) own = one_more_accepted own
-book_settled none book (close_year letter year paid unpaid tabular) own = one_more_accepted own
-book_settled none book (totals letter) own = one_more_accepted own
-book_settled none book (register_month year month rate) own = one_more_accepted own
-book_settled none book (set_rate_from_register year) own = one_more_accepted (with_rate_of own year (rate_of (months_taken book year)))
+book_settled (Some question) book call own = one_more_refused own
+book_settled None book (declare letter opening) own = one_more_accepted own
+book_settled None book (set_rate year months) own = one_more_accepted (with_rate_of own year (rate_of months))
+book_settled None book (add_pattern letter year paid incurred) own = one_more_accepted own
+book_settled None book (close_year letter year paid unpaid tabular) own = one_more_accepted own
+book_settled None book (totals letter) own = one_more_accepted own
+book_settled None book (register_month year month rate) own = one_more_accepted own
+book_settled None book (set_rate_from_register year) own = one_more_accepted (with_rate_of own year (rate_of (months_taken book year)))
 
 -- the store after it: as it was after a refusal or SUM. LINE writes its line, RATE its year's hint, PATT its slot and its line, YEAR its totals and its line, MIDT its month
 unfoldable pub store_settled : Option ℕ → model.Book → Call → List ℕ → List ℕ
-store_settled (some question) book call store = store
-store_settled none book (declare letter opening) store = with_line_of store letter (new_line opening)
-store_settled none book (set_rate year months) store = with_hint_of store year (half_year (rate_of months))
-store_settled none book (add_pattern letter year paid incurred) store =
-    let pattern = kept_pattern letter year (or_default (book.rates year) 0) (schedule letter (ages_of paid incurred)) in
+store_settled (Some question) book call store = store
+store_settled None book (declare letter opening) store = with_line_of store letter (new_line opening)
+store_settled None book (set_rate year months) store = with_hint_of store year (half_year (rate_of months))
+store_settled None book (add_pattern letter year paid incurred) store =
+    let pattern = kept_pattern letter year (unwrap_or (book.rates year) 0) (schedule letter (ages_of paid incurred)) in
     with_line_of (with_slot_of store letter year (slot_of letter pattern)) letter (with_pattern_of letter (line_at store letter) year)
-store_settled none book (close_year letter year paid unpaid tabular) store =
+store_settled None book (close_year letter year paid unpaid tabular) store =
     let rows = rows_of paid unpaid tabular in
     let line = line_at store letter in
     let amount = closing letter (book.lines letter) year rows in
     let tax_loss = loss (paid_total rows) amount (opening (book.lines letter)) in
     let later = with_year_of (totals_at store letter line.closed) (paid_total rows) tax_loss in
-    with_line_of (with_totals_of store letter year later) letter (with_closing_of line year amount)
-store_settled none book (totals letter) store = store
-store_settled none book (register_month year month rate) store = with_month_of store year month rate
-store_settled none book (set_rate_from_register year) store = with_hint_of store year (half_year (rate_of (months_taken book year)))
+    with_line_of (with_totals_of store letter (Some year) later) letter (with_closing_of line year amount)
+store_settled None book (totals letter) store = store
+store_settled None book (register_month year month rate) store = with_month_of store year month rate
+store_settled None book (set_rate_from_register year) store = with_hint_of store year (half_year (rate_of (months_taken book year)))
 
 -- a call of which `first` is the first question answered no, if any
 pub record Settles (first : Option ℕ) (book : Book) (call : Call) (store : List ℕ) (r : Outcome) (later : List ℕ) : Type 0 where

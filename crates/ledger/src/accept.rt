@@ -10,21 +10,13 @@ use state::book::Book;
 pub fn one_more(n: u64) -> u64
     ensures { result ≡ one_more n }
 {
-    if n < 18446744073709551615 {
-        return n + 1;
-    }
-    n
+    n.saturating_add(1)
 }
 
 // "Without a "no" the record is accepted and the accepted count is one higher."
-pub fn accept(book: Book, answer: Answer) -> Outcome
+pub fn accept(mut book: Book, answer: Answer) -> Outcome
     ensures { result ≡ accepted_of book answer }
 {
-    let mut later = book;
-    let count = one_more(book.accepted);
-    later.accepted = count;
-    Outcome {
-        book: later,
-        answer,
-    }
+    book.accepted = one_more(book.accepted);
+    Outcome { book, answer }
 }

@@ -9,7 +9,7 @@ use crate::answer::{Answer, Outcome};
 use crate::refuse::refuse;
 use letters::letter::is_covered;
 use line_limits::line::Line;
-use money::opening::is_opening;
+use money::opening::Opening;
 use refusal::Refusal;
 use state::book::Book;
 use state::lines::{keep_line, line_of};
@@ -20,7 +20,7 @@ pub fn declare(book: Book, store: &mut Store, letter: u8, opening: u64) -> Outco
     ensures { Does book (as_numbers (declare letter opening)) store.old result store.new }
 {
     if is_covered(letter) {
-        if is_opening(opening) {
+        if Opening::contains(opening) {
             return ask_given(book, store, letter, opening);
         }
         return refuse(book, Refusal::OutsideLimits);
@@ -34,16 +34,14 @@ fn ask_given(book: Book, store: &mut Store, letter: u8, opening: u64) -> Outcome
     ensures { Settled book (declare letter opening) store.old result store.new }
 {
     let before = line_of(store, letter);
-    if before.declared {
+    if before.opening.is_some() {
         return refuse(book, Refusal::AlreadyGiven);
     }
     let line = Line {
-        declared: true,
-        opening,
-        closed: 0,
+        opening: Some(opening),
+        closed: None,
         closing: 0,
-        last: 0,
-        kept: 0,
+        patterns: None,
     };
     keep_line(store, letter, line);
     accept(book, Answer::Line { letter, opening })

@@ -1,5 +1,4 @@
 // What a RATE that is accepted leaves, in either of its forms.
-ghost use Rattle.kinds.specs.Rate.{rate_number};
 ghost use Rattle.ledger.specs.SetRate.{GivesRate};
 
 use crate::accept::accept;
@@ -13,7 +12,7 @@ use year_rates::rates::with_rate;
 
 // The rate of its year, and the half-year factor at that rate as a hint.
 pub fn give_rate(book: Book, store: &mut Store, year: u64, rate: Rate) -> Outcome
-    ensures { GivesRate book year (rate_number rate) store.old result store.new }
+    ensures { GivesRate book year rate store.old result store.new }
 {
     keep_hint(store, year, half_year(rate));
     let later = with_rate(book, year, rate);

@@ -8,14 +8,12 @@ use refusal::Refusal;
 use state::book::Book;
 
 // "Lines, rates, patterns, closings and the accepted count are then as before, and the refused count is one higher."
-pub fn refuse(book: Book, refusal: Refusal) -> Outcome
+pub fn refuse(mut book: Book, refusal: Refusal) -> Outcome
     ensures { result ≡ refused_of book refusal }
 {
-    let mut later = book;
-    let count = one_more(book.refused);
-    later.refused = count;
+    book.refused = one_more(book.refused);
     Outcome {
-        book: later,
+        book,
         answer: Answer::No(refusal),
     }
 }

@@ -2,13 +2,12 @@
 -- Assumes nothing.
 use Rattle.std.specs.Prelude.{if◌then◌else◌}
 use mathlib.Core.Path.{◌≡◌, refl}
-use mathlib.Core.Bool.{Bool, true, false, ◌&&◌}
+use mathlib.Core.Bool.{Bool, true, false, ◌&&◌, ◌||◌}
 use mathlib.Core.Logic.{⊎_elim}
-use Prim.Native.Nat.{ℕ, zero, suc, ◌<◌, ◌≤◌}
+use Prim.Native.Nat.{ℕ, zero, suc, ◌<◌}
 use native.Mathlib.Omega.{arith}
 use native.Mathlib.Nat.{eq-or-lt_of_le, le_of_suc-le-suc}
-use borrow.Author.Tests.{ne_eqb, lt-ltb, le-ltb, le-leb, lt-leb}
-use lib.Dec.{eqb, leb, ltb}
+use lib.Dec.{eqb, leb}
 use Rattle.model.proofs.Lists.{and_left, and_right}
 use Rattle.model.specs.Letter.{ten_year, two_year, covered}
 
@@ -37,43 +36,12 @@ agree f g (suc n) e b lt =
     (λ (l : b < n). agree f g n (and_right (agrees (f n) (g n)) (agree_below f g n) e) b l)
     (eq-or-lt_of_le (le_of_suc-le-suc lt))
 
--- R, or from A to H
-ten_year_lem : (b : ℕ) → b < 256 → (if eqb b 82 then true else (if ltb b 65 then false else leb b 72)) ≡ ten_year b
+-- from A to H, or R
+pub ten_year_lem : (b : ℕ) → b < 256 → ten_year b ≡ (leb 65 b && leb b 72 || eqb b 82)
 unfolding agree_below ten_year
-ten_year_lem b lt = agree (λ x. if eqb x 82 then true else (if ltb x 65 then false else leb x 72)) ten_year 256 refl b lt
-
--- its three cases
-third_case : (x y z g : Bool) → (if x then true else (if y then false else z)) ≡ g → x ≡ false → y ≡ false → z ≡ g
-third_case x y z g e p q = rw (p, q) at e
-
-second_case : (x y z g : Bool) → (if x then true else (if y then false else z)) ≡ g → x ≡ false → y ≡ true → false ≡ g
-second_case x y z g e p q = rw (p, q) at e
-
-pub is_r : (b : ℕ) → b ≡ 82 → true ≡ ten_year b
-unfolding ten_year
-is_r b e = rw e
-
-pub below_a : (b : ℕ) → b < 256 → (b ≡ 82 → ⊥) → b < 65 → false ≡ ten_year b
-below_a b lt n l = second_case (eqb b 82) (ltb b 65) (leb b 72) (ten_year b) (ten_year_lem b lt) (ne_eqb b 82 n) (lt-ltb b 65 l)
-
-pub up_to_h : (b : ℕ) → b < 256 → (b ≡ 82 → ⊥) → 65 ≤ b → leb b 72 ≡ ten_year b
-up_to_h b lt n l = third_case (eqb b 82) (ltb b 65) (leb b 72) (ten_year b) (ten_year_lem b lt) (ne_eqb b 82 n) (le-ltb b 65 l)
+ten_year_lem b lt = agree ten_year (λ x. leb 65 x && leb x 72 || eqb x 82) 256 refl b lt
 
 -- from A to L, or from R to T
-is_covered : (b : ℕ) → b < 256 → (if ltb b 65 then false else (if leb b 76 then true else (if ltb b 82 then false else leb b 84))) ≡ covered b
+pub covered_lem : (b : ℕ) → b < 256 → covered b ≡ (leb 65 b && leb b 76 || leb 82 b && leb b 84)
 unfolding agree_below ten_year two_year
-is_covered b lt = agree (λ x. if ltb x 65 then false else (if leb x 76 then true else (if ltb x 82 then false else leb x 84))) covered 256 refl b lt
-
--- its four cases
-module _ (b : ℕ) (lt : b < 256) where
-  pub before_a : b < 65 → false ≡ covered b
-  before_a l = rw (lt-ltb b 65 l) at (is_covered b lt)
-
-  pub from_a_to_l : 65 ≤ b → b ≤ 76 → true ≡ covered b
-  from_a_to_l a l = rw (le-ltb b 65 a, le-leb b 76 l) at (is_covered b lt)
-
-  pub from_m_to_q : 65 ≤ b → 76 < b → b < 82 → false ≡ covered b
-  from_m_to_q a m r = rw (le-ltb b 65 a, lt-leb b 76 m, lt-ltb b 82 r) at (is_covered b lt)
-
-  pub from_r : 65 ≤ b → 76 < b → 82 ≤ b → leb b 84 ≡ covered b
-  from_r a m r = rw (le-ltb b 65 a, lt-leb b 76 m, le-ltb b 82 r) at (is_covered b lt)
+covered_lem b lt = agree covered (λ x. leb 65 x && leb x 76 || leb 82 x && leb x 84) 256 refl b lt

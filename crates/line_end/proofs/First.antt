@@ -54,27 +54,20 @@ index_joined [] rest = omega arith
 index_joined (b ∷ bytes) rest = joined_by b bytes rest (index_joined bytes rest) (eqb b 10) refl
 
 -- those from place i on are looked at
-pub record Searched (bytes : List ℕ) (first i : ℕ) : Type 0 where
-  pub upto : i ≤ length bytes
-  pub so_far : first ≡ i + index_of 10 (drop i bytes)
+abbrev pub Searched : List ℕ → ℕ → ℕ → Type 0
+Searched bytes first i = first ≡ i + index_of 10 (drop i bytes)
 
 pub search_start : (bytes : List ℕ) → Searched bytes (length bytes) (length bytes)
-search_start bytes = record { upto = omega arith; so_far = rw (drop-length bytes) (omega (arith, index_none)) }
+search_start bytes = rw (drop-length bytes) (omega (arith, index_none))
 
-module _ (bytes : List ℕ) (first i : ℕ) (s : Searched bytes first i) where
-  module _ (lt : 0 < i) where
-    next : (t : Bool) → eqb (get_or bytes (i - 1) 0) 10 ≡ t → index_of 10 (drop (i - 1) bytes) ≡ (if t then 0 else suc (index_of 10 (drop i bytes)))
-    next t e =
-        let back : (i - 1) + 1 ≡ i = omega arith in
-        rw (drop_next bytes (i - 1) 0 (omega (arith, s.upto)), back) (index_by (get_or bytes (i - 1) 0) (drop i bytes) t e)
+module _ (bytes : List ℕ) (first i : ℕ) (s : Searched bytes first i) (lt : 0 < i) (le : i ≤ length bytes) where
+  next : (t : Bool) → eqb (get_or bytes (i - 1) 0) 10 ≡ t → index_of 10 (drop (i - 1) bytes) ≡ (if t then 0 else suc (index_of 10 (drop i bytes)))
+  next t e =
+      let back : (i - 1) + 1 ≡ i = omega arith in
+      rw (drop_next bytes (i - 1) 0 (omega arith), back) (index_by (get_or bytes (i - 1) 0) (drop i bytes) t e)
 
-    pub search_found : get_or bytes (i - 1) 0 ≡ 10 → Searched bytes (i - 1) (i - 1)
-    search_found e = record { upto = omega (arith, s.upto); so_far = omega (arith, next true (eq-eqb (get_or bytes (i - 1) 0) 10 e)) }
+  pub search_found : get_or bytes (i - 1) 0 ≡ 10 → Searched bytes (i - 1) (i - 1)
+  search_found e = omega (arith, next true (eq-eqb (get_or bytes (i - 1) 0) 10 e))
 
-    pub search_on : (get_or bytes (i - 1) 0 ≡ 10 → ⊥) → Searched bytes first (i - 1)
-    search_on n = record { upto = omega (arith, s.upto); so_far = omega (arith, s.so_far, next false (ne_eqb (get_or bytes (i - 1) 0) 10 n)) }
-
-  pub searched : i ≤ 0 → first ≡ index_of 10 bytes
-  searched le =
-      let z : i ≡ 0 = omega arith in
-      omega (arith, rw z at s.so_far)
+  pub search_on : (get_or bytes (i - 1) 0 ≡ 10 → ⊥) → Searched bytes first (i - 1)
+  search_on n = omega (arith, s, next false (ne_eqb (get_or bytes (i - 1) 0) 10 n))

@@ -26,9 +26,6 @@ pub record Passed (input : List ℕ) (start at : ℕ) : Type 0 where
   pub inside : at ≤ length input
   pub none : index_of 10 (drop start input) ≡ (at - start) + index_of 10 (drop at input)
 
-pub pass_start : (input : List ℕ) (start : ℕ) → start ≤ length input → Passed input start start
-pass_start input start le = record { after_start = omega arith; inside = le; none = omega arith }
-
 -- fewer bytes than a block are left
 rest_whole : (input : List ℕ) (at : ℕ) → length input - at < 16 → take 16 (drop at input) ≡ drop at input
 rest_whole input at lt = take_all 16 (drop at input) (rw length-drop (omega arith))
@@ -38,7 +35,7 @@ module _ (input : List ℕ) (start at : ℕ) (p : Passed input start at) where
     sixteen : end - at ≡ 16
     sixteen = omega arith
 
-    pub block_sized : length (take (end - at) (drop at input)) ≡ 16
+    block_sized : length (take (end - at) (drop at input)) ≡ 16
     block_sized = rw (length-take, length-drop) (omega (arith, p.inside))
 
     -- the next byte 10 is in the block or after it

@@ -37,16 +37,13 @@ fn skip_blocks(input: &[u8], start: usize) -> usize
     at
 }
 
-// Does a byte of a block end a line?
+// Does a byte of a block end a line? By an `or` of all of them: `any` would stop at the first, with a branch at each.
 fn has_end(block: &[u8]) -> bool
-    requires { length block.now ≡ 16 }
     ensures { result ≡ among 10 block.now }
 {
     let mut found = false;
-    let mut i = 0;
-    while i < BLOCK {
-        found |= block[i] == 10;
-        i += 1;
+    for byte in block {
+        found |= *byte == 10;
     }
     found
 }
@@ -56,9 +53,7 @@ fn first_end(bytes: &[u8]) -> usize
     ensures { result ≡ index_of 10 bytes.now }
 {
     let mut first = bytes.len();
-    let mut i = bytes.len();
-    while 0 < i {
-        i -= 1;
+    for i in (0..bytes.len()).rev() {
         if bytes[i] == 10 {
             first = i;
         }

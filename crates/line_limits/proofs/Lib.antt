@@ -1,3 +1,2 @@
-pub mod LimitsRead
 pub mod TotalLimits
 pub mod TotalsRead

@@ -1,9 +1,10 @@
 -- Totals in their cells: what is read is within its limits, what is within them is read back, and a year more stays within the limits of the later year.
 -- Assumes nothing.
+use Rattle.std.specs.Prelude.{Option, None, Some}
 use mathlib.Core.Bool.{Bool, true, false}
 use mathlib.Core.List.{List}
 use mathlib.Core.Path.{◌≡◌, refl}
-use Prim.Native.Nat.{ℕ, suc, ◌+◌, ◌-◌, ◌*◌, ◌≤◌, ◌<◌, min}
+use Prim.Native.Nat.{ℕ, suc, ◌+◌, ◌*◌, ◌≤◌, ◌<◌, min}
 use native.Mathlib.Omega.{arith}
 use native.Mathlib.Nat.{min-zero}
 use borrow.Author.Tests.{leb-true, ltb-true}
@@ -22,7 +23,7 @@ total_within : (limit cell : ℕ) → nat_abs (total_in limit cell) ≤ limit
 unfolding total_in
 total_within limit cell = less_size (min cell (2 * limit)) limit limit (omega arith) (omega arith)
 
-pub read_within : (closed : ℕ) (cells : List ℕ) → Within closed (totals_in closed cells)
+pub read_within : (closed : Option ℕ) (cells : List ℕ) → Within closed (totals_in closed cells)
 unfolding totals_in
 read_within closed cells =
     record {
@@ -47,39 +48,39 @@ total_back limit v le =
     let same : min (min (or_zero (v +ℤ pos limit)) (2 * limit)) (2 * limit) ≡ or_zero (v +ℤ pos limit) = omega (arith, d.1) in
     rw (same, d.0) (+ℤ-neg_ℤ_cancel v (pos limit))
 
-pub kept_back_lem : (closed : ℕ) (totals : Totals) → Within closed totals → totals_in closed (total_cells closed totals) ≡ totals
+pub kept_back_lem : (closed : Option ℕ) (totals : Totals) → Within closed totals → totals_in closed (total_cells closed totals) ≡ totals
 unfolding totals_in total_cells
 kept_back_lem closed totals w =
     let years : min totals.years (years_through closed) ≡ totals.years = omega (arith, w.years) in
     rw (years, total_back (total_limit closed) totals.paid w.paid, total_back (total_limit closed) totals.losses w.losses)
 
 -- no totals at all
-pub none_within : (closed : ℕ) → Within closed (totals_by no_totals)
+pub none_within : (closed : Option ℕ) → Within closed (totals_by no_totals)
 none_within closed = record { years = omega arith; paid = omega arith; losses = omega arith }
 
 -- where none is closed
-pub none_closed : (cells : List ℕ) → totals_in 0 cells ≡ totals_by no_totals
+pub none_closed : (cells : List ℕ) → totals_in None cells ≡ totals_by no_totals
 unfolding totals_in total_in total_limit
 none_closed cells = rw (min-zero (get_or cells 0 0), min-zero (get_or cells 1 0), min-zero (get_or cells 2 0))
 
 -- the years through a later one
-years_of : (closed : ℕ) (t : Bool) → is_year closed ≡ t → (years_through closed ≤ 113) × (years_through closed ≤ closed - 1987 + 1)
-years_of closed true e =
-    let least : 1987 ≤ closed = leb-true 1987 closed (and_left (leb 1987 closed) (leb closed 2099) e) in
+few_by : (closed : ℕ) (t : Bool) → is_year closed ≡ t → years_through (Some closed) ≤ 113
+few_by closed true e =
     let most : closed ≤ 2099 = leb-true closed 2099 (and_right (leb 1987 closed) (leb closed 2099) e) in
-    rw e (omega arith, omega arith)
-years_of closed false e = rw e (omega arith, omega arith)
+    rw e (omega arith)
+few_by closed false e = rw e (omega arith)
 
-pub years_few : (closed : ℕ) → years_through closed ≤ 113
-years_few closed = (years_of closed (is_year closed) refl).0
+pub years_few : (closed : Option ℕ) → years_through closed ≤ 113
+years_few None = omega arith
+years_few (Some year) = few_by year (is_year year) refl
 
 -- every total is far within an i64
-pub limit_small : (closed : ℕ) → total_limit closed ≤ 113 * most_a_year
+pub limit_small : (closed : Option ℕ) → total_limit closed ≤ 113 * most_a_year
 unfolding total_limit
 limit_small closed = omega (arith, years_few closed)
 
 -- what is within the limits of a year is within those of the last one
-pub within_last : (closed : ℕ) (totals : Totals) → Within closed totals → Within 2099 totals
+pub within_last : (closed : Option ℕ) (totals : Totals) → Within closed totals → Within (Some 2099) totals
 unfolding total_limit
 within_last closed totals w =
     record {
@@ -88,19 +89,26 @@ within_last closed totals w =
       losses = omega (arith, w.losses, years_few closed);
     }
 
-module _ (closed year : ℕ) (y : is_year year ≡ true) (later : is_year closed ≡ true → closed < year) where
-  more_by : (t : Bool) → is_year closed ≡ t → years_through closed + 1 ≤ years_through year
-  more_by true e = rw (y, e) (omega (arith, later e, leb-true 1987 year (and_left (leb 1987 year) (leb year 2099) y), leb-true 1987 closed (and_left (leb 1987 closed) (leb closed 2099) e)))
-  more_by false e = rw (y, e) (omega (arith, leb-true 1987 year (and_left (leb 1987 year) (leb year 2099) y)))
+module _ (closed : Option ℕ) (year : ℕ) (y : is_year year ≡ true) (later : (before : ℕ) → closed ≡ Some before → is_year before ≡ true → before < year) where
+  first : 1987 ≤ year
+  first = leb-true 1987 year (and_left (leb 1987 year) (leb year 2099) y)
 
-  more : years_through closed + 1 ≤ years_through year
-  more = more_by (is_year closed) refl
+  more_by : (before : ℕ) (t : Bool) → closed ≡ Some before → is_year before ≡ t → years_through (Some before) + 1 ≤ years_through (Some year)
+  more_by before true c e = rw (y, e) (omega (arith, later before c e, first, leb-true 1987 before (and_left (leb 1987 before) (leb before 2099) e)))
+  more_by before false c e = rw (y, e) (omega (arith, first))
 
-  pub more_limit : total_limit closed + most_a_year ≤ total_limit year
+  more_of : (last : Option ℕ) → closed ≡ last → years_through last + 1 ≤ years_through (Some year)
+  more_of None c = rw y (omega (arith, first))
+  more_of (Some before) c = more_by before (is_year before) c refl
+
+  more : years_through closed + 1 ≤ years_through (Some year)
+  more = more_of closed refl
+
+  pub more_limit : total_limit closed + most_a_year ≤ total_limit (Some year)
   unfolding total_limit
   more_limit = omega (arith, more)
 
-  pub year_within_lem : (totals : Totals) (paid loss : ℤ) → Within closed totals → nat_abs paid ≤ most_a_year → nat_abs loss ≤ most_a_year → Within year (with_year_of totals paid loss)
+  pub year_within_lem : (totals : Totals) (paid loss : ℤ) → Within closed totals → nat_abs paid ≤ most_a_year → nat_abs loss ≤ most_a_year → Within (Some year) (with_year_of totals paid loss)
   year_within_lem totals paid loss w p l =
       record {
         years = omega (arith, w.years, more);

@@ -1,74 +1,61 @@
 // The cells of a line read through their limits.
 ghost use Rattle.std.specs.Prelude.{◌≡◌};
-ghost use Rattle.line_limits.specs.Limits.{opening_in, closing_in, kept_in, closed_in, limited_of};
+ghost use Rattle.line_limits.specs.Limits.{opening_in, closed_in, patterns_in, line_in};
 
-use crate::line::Line;
-use kinds::year::is_year;
+use crate::line::{Line, Patterns};
+use kinds::within::Limits;
+use kinds::year::Year;
 use letters::letter::ages;
-use money::closing::{Closing, MaybeClosing};
-use money::opening::{MaybeOpening, Opening};
+use money::closing::ClosingLimits;
+use money::opening::OpeningLimits;
 
-// A line as it is read: each cell through its limit.
-pub fn limited(letter: u8, line: Line) -> Line
-    ensures { result ≡ limited_of letter line }
+// The line in six cells, each read through its limit, and what lies past it as the limit.
+#[tactic(auto, unfolding(crate::specs::Limits::line_in))]
+pub fn line_in(letter: u8, cells: [u64; 6]) -> Line
+    ensures { result ≡ line_in letter cells }
 {
-    let kept = kept_in(letter, line.last, line.kept);
+    let patterns = patterns_in(letter, cells[4], cells[5]);
     Line {
-        declared: line.declared,
-        opening: opening_in(line.opening),
-        closed: closed_in(line.closed, line.last, kept),
-        closing: closing_in(line.closing),
-        last: line.last,
-        kept,
+        opening: opening_in(cells[0], cells[1]),
+        closed: closed_in(patterns, cells[2]),
+        closing: cells[3].min(ClosingLimits::MOST),
+        patterns,
     }
 }
 
-// A declared opening: past its limit it is read as the limit.
-fn opening_in(cell: u64) -> u64
-    ensures { result ≡ opening_in cell }
+// The opening of a line that its mark says is declared.
+fn opening_in(mark: u64, cell: u64) -> Option<u64>
+    ensures { result ≡ opening_in mark cell }
 {
-    match Opening::new(cell) {
-        MaybeOpening::Within(opening) => opening.number(),
-        MaybeOpening::Outside => Opening::MOST,
+    if mark > 0 {
+        Some(cell.min(OpeningLimits::MOST))
+    } else {
+        None
     }
 }
 
-// A closing: past its limit it is read as the limit.
-fn closing_in(cell: u64) -> u64
-    ensures { result ≡ closing_in cell }
+// The last closed year is read only where a pattern is kept, and not after that pattern's year.
+fn closed_in(patterns: Option<Patterns>, year: u64) -> Option<u64>
+    ensures { result ≡ closed_in patterns year }
 {
-    match Closing::new(cell) {
-        MaybeClosing::Within(closing) => closing.number(),
-        MaybeClosing::Outside => Closing::MOST,
+    let last = patterns?.last;
+    if year <= last && Year::contains(year) {
+        Some(year)
+    } else {
+        None
     }
 }
 
-// How many patterns a line keeps: none where the year of its last one is no year, and at most one for each age.
-fn kept_in(letter: u8, last: u64, kept: u64) -> u64
-    ensures { result ≡ kept_in letter last kept }
+// The patterns that a line keeps: none where the year of its last one is no year, and at most one for each age.
+fn patterns_in(letter: u8, last: u64, cell: u64) -> Option<Patterns>
+    ensures { result ≡ patterns_in letter last cell }
 {
-    if is_year(last) {
-        let most = ages(letter) as u64;
-        if kept < most {
-            return kept;
-        }
-        return most;
+    if cell > 0 && Year::contains(last) {
+        Some(Patterns {
+            last,
+            count: cell.min(ages(letter) as u64),
+        })
+    } else {
+        None
     }
-    0
-}
-
-// The last closed year, or 0: it is read only where a pattern is kept, and not after that pattern's year.
-fn closed_in(closed: u64, last: u64, kept: u64) -> u64
-    ensures { result ≡ closed_in closed last kept }
-{
-    if kept == 0 {
-        return 0;
-    }
-    if closed > last {
-        return 0;
-    }
-    if is_year(closed) {
-        return closed;
-    }
-    0
 }

@@ -1,14 +1,19 @@
 // A line of the book.
 #[derive(Clone, Copy)]
 pub struct Line {
-    pub declared: bool,
-    pub opening: u64,
-    // The last closed year, or 0 where there is none.
-    pub closed: u64,
-    // The closing of that year.
+    // What it opens with: none where the line is not declared.
+    pub opening: Option<u64>,
+    // The last closed year.
+    pub closed: Option<u64>,
+    // Its closing. Where no year is closed it says nothing, and a PATT leaves it as it is read.
     pub closing: u64,
-    // The accident year of the last pattern.
+    // The patterns that it keeps.
+    pub patterns: Option<Patterns>,
+}
+
+// At least one pattern: of the accident year `last` and the years before it, as many as `count`.
+#[derive(Clone, Copy)]
+pub struct Patterns {
     pub last: u64,
-    // How many patterns are kept: of that year and the years before it.
-    pub kept: u64,
+    pub count: u64,
 }

@@ -1,8 +1,9 @@
 // A line's totals, and the cells that they are kept in, each read through its limit.
-ghost use Rattle.std.specs.Prelude.{◌≡◌, ◌*◌, ◌≤◌, min};
+ghost use Rattle.std.specs.Prelude.{◌≡◌, ◌*◌, ◌≤◌};
 ghost use Rattle.line_limits.specs.Totals.{years_through, most_a_year, total_in, total_cell, totals_in, total_cells};
 
-use kinds::year::{Year, is_year};
+use kinds::within::Limits;
+use kinds::year::{Year, YearLimits};
 
 // "a line's figures since its first closing": the count of closed years, all paid and all tax-basis losses.
 #[derive(Clone, Copy)]
@@ -15,21 +16,23 @@ pub struct Totals {
 // What a year can add to a total at most, either sign.
 const MOST_A_YEAR: u64 = 220000000000;
 
-// The totals in three cells, by the last closed year, or 0 where there is none.
-pub fn totals_in(closed: u64, cells: [u64; 3]) -> Totals
+// The totals in three cells, by the last closed year.
+#[tactic(auto, unfolding(crate::specs::Totals::totals_in, crate::specs::Totals::total_limit))]
+pub fn totals_in(closed: Option<u64>, cells: [u64; 3]) -> Totals
     ensures { result ≡ totals_in closed cells }
 {
     let years = years_through(closed);
     let limit = MOST_A_YEAR * years;
     Totals {
-        years: at_most(cells[0], years),
+        years: cells[0].min(years),
         paid: total_in(cells[1], limit),
         losses: total_in(cells[2], limit),
     }
 }
 
 // The cells of totals, by the last closed year.
-pub fn total_cells(closed: u64, totals: Totals) -> [u64; 3]
+#[tactic(auto, unfolding(crate::specs::Totals::total_cells, crate::specs::Totals::total_limit))]
+pub fn total_cells(closed: Option<u64>, totals: Totals) -> [u64; 3]
     ensures { result ≡ total_cells closed totals }
 {
     let limit = MOST_A_YEAR * years_through(closed);
@@ -41,22 +44,22 @@ pub fn total_cells(closed: u64, totals: Totals) -> [u64; 3]
 }
 
 // The years from 1987 to the last closed one: none where none is closed.
-fn years_through(closed: u64) -> u64
+fn years_through(closed: Option<u64>) -> u64
     ensures { (result ≡ years_through closed) × (result ≤ 113) }
 {
-    if is_year(closed) {
-        return closed - Year::FIRST + 1;
+    match closed {
+        Some(year) if Year::contains(year) => year - YearLimits::LEAST + 1,
+        _ => 0,
     }
-    0
 }
 
 // The total that a cell has as its distance from the least one: past the limit it is read as the limit.
+#[tactic(auto, unfolding(crate::specs::Totals::total_in))]
 fn total_in(cell: u64, limit: u64) -> i64
     requires { limit ≤ 113 * most_a_year }
     ensures { result ≡ total_in limit cell }
 {
-    let distance = at_most(cell, 2 * limit);
-    distance as i64 - limit as i64
+    cell.min(2 * limit) as i64 - limit as i64
 }
 
 // The cell of a total: past the limit it is kept as the limit.
@@ -64,22 +67,6 @@ fn total_cell(total: i64, limit: u64) -> u64
     requires { limit ≤ 113 * most_a_year }
     ensures { result ≡ total_cell limit total }
 {
-    if total > limit as i64 {
-        return 2 * limit;
-    }
-    let distance = total + limit as i64;
-    if distance < 0 {
-        return 0;
-    }
-    distance as u64
-}
-
-// The number, or the most that it may be.
-fn at_most(number: u64, most: u64) -> u64
-    ensures { result ≡ min number most }
-{
-    if number < most {
-        return number;
-    }
-    most
+    let most = limit as i64;
+    (total.clamp(-most, most) + most) as u64
 }

@@ -1,27 +1,20 @@
 -- MIDT.
 -- Assumes nothing.
-use Rattle.std.specs.Prelude.{if◌then◌else◌}
+use Rattle.std.specs.Prelude.{if◌then◌else◌, Option, None, Some, is_some}
 use mathlib.Core.Bool.{Bool, true, false, ◌&&◌}
 use mathlib.Core.List.{List}
-use mathlib.Core.Option.{Option, none, some}
-use mathlib.Core.Path.{◌≡◌, refl, sym, ap, ◌∙◌}
+use mathlib.Core.Path.{◌≡◌, refl, sym, ◌∙◌}
 use Prim.Native.Nat.{ℕ}
 use native.Mathlib.Omega.{arith}
+use borrow.Author.Tests.{leb-true}
 use lib.ListN.{length}
-use Rattle.model.specs.Basics.{given}
 use Rattle.model.specs.Kind.{is_rate}
 use Rattle.model.specs.Call.{register_month}
 use Rattle.model.specs.Question.{is_within_limits, book_questions, first_no}
 use Rattle.model.specs.Step.{as_numbers, accept}
-use Rattle.kinds.specs.Rate.{maybe_rate, rate_number}
-use Rattle.kinds.specs.declared.rate.Rate.{Rate}
-use Rattle.kinds.specs.declared.rate.MaybeRate.{MaybeRate}
-use Rattle.kinds.specs.declared.rate.MaybeRate.TheVariants as rate
-use Rattle.kinds.proofs.Within.{rate_within, rate_outside}
+use Rattle.kinds.specs.Within.{within}
+use Rattle.kinds.proofs.Taken.{taken, outside}
 use Rattle.refusal.specs.declared.Refusal.TheVariants as refusal
-use Rattle.register.specs.Month.{month_rate}
-use Rattle.register.specs.declared.month.MonthRate.{MonthRate}
-use Rattle.register.specs.declared.month.MonthRate.TheVariants as month_rate_lem
 use Rattle.state.specs.declared.book.Book.{Book}
 use Rattle.state.specs.Store.{size}
 use Rattle.state.specs.Months.{is_date, register_of, with_month_of}
@@ -38,42 +31,39 @@ use Rattle.ledger.proofs.Settling.{refused, limits_refused, goes_on}
 pub is_dated : (year month : ℕ) (t : Bool) → t ≡ is_date year month → t ≡ true → is_date year month ≡ true
 is_dated year month t et d = sym et ∙ d
 
-module _ (year month n : ℕ) (x : MaybeRate) (ex : x ≡ maybe_rate n) (book : Book) (store : List ℕ) (r : Outcome) where
-  pub month_on : (v : Rate) → x ≡ rate.Within v → (t : Bool) → t ≡ is_date year month → t ≡ true → (later : List ℕ) → Settled book (register_month year month (rate_number v)) store r later → Does book (as_numbers (register_month year month n)) store r later
+module _ (year month n : ℕ) (x : Option ℕ) (ex : x ≡ within is_rate n) (book : Book) (store : List ℕ) (r : Outcome) where
+  pub month_on : (v : ℕ) → x ≡ Some v → (t : Bool) → t ≡ is_date year month → t ≡ true → (later : List ℕ) → Settled book (register_month year month v) store r later → Does book (as_numbers (register_month year month n)) store r later
   month_on v ev t et d later h =
-      let within = rate_within n x ex v ev in
-      goes_on book (register_month year month n) store r (record { letter = refl; lengths = refl; limits = rw (← et, d, within.0) }) later (rw within.1 at h)
+      let allowed = taken is_rate n v (sym ex ∙ ev) in
+      goes_on book (register_month year month n) store r (record { letter = refl; lengths = refl; limits = rw (← et, d, allowed.0) }) later (rw allowed.1 at h)
 
   pub date_refused : (t : Bool) → t ≡ is_date year month → t ≡ false → r ≡ refused_of book refusal.OutsideLimits → Does book (as_numbers (register_month year month n)) store r store
   date_refused t et d er = limits_refused book (register_month year month n) store r true refl refl true refl refl (is_within_limits (register_month year month n)) refl (rw (← et, d)) er
 
-  pub rate_refused : x ≡ rate.Outside → r ≡ refused_of book refusal.OutsideLimits → Does book (as_numbers (register_month year month n)) store r store
-  rate_refused eo er = limits_refused book (register_month year month n) store r true refl refl true refl refl (is_within_limits (register_month year month n)) refl (and_false (is_date year month) (is_rate n) (rate_outside n x ex eo)) er
+  pub rate_refused : x ≡ None → r ≡ refused_of book refusal.OutsideLimits → Does book (as_numbers (register_month year month n)) store r store
+  rate_refused eo er = limits_refused book (register_month year month n) store r true refl refl true refl refl (is_within_limits (register_month year month n)) refl (and_false (is_date year month) (is_rate n) (outside is_rate n (sym ex ∙ eo))) er
     where
       and_false : (a b : Bool) → b ≡ false → (a && b) ≡ false
       and_false true b e = e
       and_false false b e = refl
 
 -- question 7
-module _ (book : Book) (year month : ℕ) (v : Rate) (d : is_date year month ≡ true) (store : List ℕ) (before : MonthRate) (eb : month_rate before ≡ register_of store year month) (r : Outcome) where
-  abbrev n : ℕ
-  n = rate_number v
-
-  first_is : (o : Option ℕ) → register_of store year month ≡ o → first_no (book_questions (view book store) (register_month year month n)) ≡ (if given o then some 7 else none)
+module _ (book : Book) (year month n : ℕ) (d : is_date year month ≡ true) (store : List ℕ) (before : Option ℕ) (eb : before ≡ register_of store year month) (r : Outcome) where
+  first_is : (o : Option ℕ) → register_of store year month ≡ o → first_no (book_questions (view book store) (register_month year month n)) ≡ (if is_some o then Some 7 else None)
   unfolding book_questions
-  first_is none e = rw e
-  first_is (some old) e = rw e
+  first_is None e = rw e
+  first_is (Some old) e = rw e
 
-  pub month_given : (old : Rate) → before ≡ month_rate_lem.Given old → r ≡ refused_of book refusal.AlreadyGiven → Settled book (register_month year month n) store r store
+  pub month_given : (old : ℕ) → before ≡ Some old → r ≡ refused_of book refusal.AlreadyGiven → Settled book (register_month year month n) store r store
   month_given old e er =
-      refused book refusal.AlreadyGiven (first_no (book_questions (view book store) (register_month year month n))) (register_month year month n) store r (first_is (some (rate_number old)) (sym eb ∙ ap month_rate e)) er
+      refused book refusal.AlreadyGiven (first_no (book_questions (view book store) (register_month year month n))) (register_month year month n) store r (first_is (Some old) (sym eb ∙ e)) er
 
-  pub month_registered : before ≡ month_rate_lem.Missing → length store ≡ size → (later : List ℕ) → later ≡ with_month_of store year month n → (k : ℕ) → k ≡ n → r ≡ accepted_of book (answer.MidTerm year month k) → Settled book (register_month year month n) store r later
+  pub month_registered : before ≡ None → length store ≡ size → (later : List ℕ) → later ≡ with_month_of store year month n → (k : ℕ) → k ≡ n → is_rate k ≡ true → r ≡ accepted_of book (answer.MidTerm year month k) → Settled book (register_month year month n) store r later
   unfolding accept book_settled store_settled
-  month_registered e cells later el k ek er =
-      rw (first_is none (sym eb ∙ ap month_rate e), er, el, ek)
+  month_registered e cells later el k ek small er =
+      rw (first_is None (sym eb ∙ e), er, el, ek)
       record {
-        outcome = rw (register_put store year month n d cells (omega arith), month_unseen store year month n d cells (omega arith));
+        outcome = rw (register_put store year month n d cells (omega (arith, ek, leb-true k 2500 small)), month_unseen store year month n d cells (omega (arith, ek, leb-true k 2500 small)));
         own = refl;
         lent = refl;
       }

@@ -2,16 +2,15 @@
 ghost use Rattle.std.specs.Prelude.{true, ◌≡◌};
 ghost use Rattle.model.specs.Call.{register_month};
 ghost use Rattle.model.specs.Step.{as_numbers};
-ghost use Rattle.kinds.specs.Rate.{rate_number};
 ghost use Rattle.state.specs.Months.{is_date};
 ghost use Rattle.ledger.specs.Does.{Settled, Does};
 
-use kinds::rate::{MaybeRate, Rate};
+use kinds::rate::Rate;
 use ledger::accept::accept;
 use ledger::answer::{Answer, Outcome};
 use ledger::refuse::refuse;
 use refusal::Refusal;
-use register::month::{MonthRate, is_date, keep_month, month_of};
+use register::month::{is_date, keep_month, month_of};
 use state::book::Book;
 use state::store::Store;
 
@@ -20,25 +19,24 @@ pub fn register_month(book: Book, store: &mut Store, year: u64, month: u64, rate
     ensures { Does book (as_numbers (register_month year month rate)) store.old result store.new }
 {
     match Rate::new(rate) {
-        MaybeRate::Within(rate) => {
+        Some(rate) => {
             if is_date(year, month) {
                 return ask_given(book, store, year, month, rate);
             }
             refuse(book, Refusal::OutsideLimits)
         }
-        MaybeRate::Outside => refuse(book, Refusal::OutsideLimits),
+        None => refuse(book, Refusal::OutsideLimits),
     }
 }
 
 // "Question 7 also covers a month given twice."
 fn ask_given(book: Book, store: &mut Store, year: u64, month: u64, rate: Rate) -> Outcome
     requires { is_date year month ≡ true }
-    ensures { Settled book (register_month year month (rate_number rate)) store.old result store.new }
+    ensures { Settled book (register_month year month rate) store.old result store.new }
 {
-    let before = month_of(store, year, month);
-    match before {
-        MonthRate::Given(_) => refuse(book, Refusal::AlreadyGiven),
-        MonthRate::Missing => {
+    match month_of(store, year, month) {
+        Some(_) => refuse(book, Refusal::AlreadyGiven),
+        None => {
             keep_month(store, year, month, rate);
             accept(
                 book,

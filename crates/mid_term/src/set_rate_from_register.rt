@@ -6,22 +6,22 @@ ghost use Rattle.model.specs.Step.{as_numbers};
 ghost use Rattle.ledger.specs.Does.{Settled, Does};
 ghost use Rattle.mid_term.specs.FromRegister.{ToBeGiven};
 
-use kinds::year::is_year;
+use kinds::year::Year;
 use ledger::answer::Outcome;
 use ledger::give_rate::give_rate;
 use ledger::refuse::refuse;
-use rates::rate::{Mean, mean_rate};
+use rates::rate::mean_rate;
 use refusal::Refusal;
-use register::sixty::{has_sixty, sixty_rates};
+use register::sixty::given_sixty;
 use state::book::Book;
 use state::store::Store;
-use year_rates::rates::{YearRate, rate_of};
+use year_rates::rates::rate_of;
 
 // Question 6, and on.
 pub fn set_rate_from_register(book: Book, store: &mut Store, year: u64) -> Outcome
     ensures { Does book (as_numbers (set_rate_from_register year)) store.old result store.new }
 {
-    if is_year(year) {
+    if Year::contains(year) {
         return ask_given(book, store, year);
     }
     refuse(book, Refusal::OutsideLimits)
@@ -32,10 +32,9 @@ fn ask_given(book: Book, store: &mut Store, year: u64) -> Outcome
     requires { is_year year ≡ true }
     ensures { Settled book (set_rate_from_register year) store.old result store.new }
 {
-    let before = rate_of(book, year);
-    match before {
-        YearRate::Given(_) => refuse(book, Refusal::AlreadyGiven),
-        YearRate::Missing => ask_months(book, store, year),
+    match rate_of(book, year) {
+        Some(_) => refuse(book, Refusal::AlreadyGiven),
+        None => ask_months(book, store, year),
     }
 }
 
@@ -44,13 +43,9 @@ fn ask_months(book: Book, store: &mut Store, year: u64) -> Outcome
     requires { ToBeGiven book year }
     ensures { Settled book (set_rate_from_register year) store.old result store.new }
 {
-    if has_sixty(store, year) {
-        let months = sixty_rates(store, year);
-        let mean = mean_rate(&months);
-        return match mean {
-            Mean::Is(rate) => give_rate(book, store, year, rate),
-            Mean::Refused(refusal) => refuse(book, refusal),
-        };
-    }
-    refuse(book, Refusal::NoMonth)
+    let Some(months) = given_sixty(store, year) else {
+        return refuse(book, Refusal::NoMonth);
+    };
+    let rate = mean_rate(&months).unwrap();
+    give_rate(book, store, year, rate)
 }

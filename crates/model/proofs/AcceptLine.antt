@@ -1,24 +1,23 @@
 -- An accepted LINE leaves the invariant standing, with its entry added.
 -- Assumes nothing.
+use Rattle.std.specs.Prelude.{None, is_some}
 use mathlib.Core.Path.{◌≡◌, refl, sym}
 use mathlib.Core.Bool.{true, not}
 use mathlib.Core.List.{List, [], append-nil}
-use mathlib.Core.Option.{none}
 use Prim.Native.Nat.{ℕ}
 use borrow.Author.Tests.{eq-eqb}
 use lib.IntN.{pos, ◌+ℤ◌, +ℤ_idr}
-use Rattle.model.specs.Basics.{given}
 use Rattle.model.specs.Book.{Book, no_totals}
 use Rattle.model.specs.Call.{declare}
 use Rattle.model.specs.Answer.{declared}
 use Rattle.model.specs.Step.{with_line, declared_line}
 use Rattle.model.specs.History.{Entry, payments_in, kept_in, paid_in, losses_in}
-use Rattle.model.proofs.Lists.{some≢none, not_given, put_all}
+use Rattle.model.proofs.Lists.{Some≢None, not_given, put_all}
 use Rattle.model.proofs.Entries.{with, payments_with, kept_with, openings_with, closed_with, losses_with, paid_with, Fresh}
 use Rattle.model.proofs.Sums.{sums_same}
 use Rattle.model.proofs.Invariant.{LineHolds, Invariant, aside, entries_with, rates_as, months_as}
 
-module _ (h : List Entry) (b : Book) (letter amount : ℕ) (i : Invariant h b) (q7 : not (given (b.lines letter).opening) ≡ true) where
+module _ (h : List Entry) (b : Book) (letter amount : ℕ) (i : Invariant h b) (q7 : not (is_some (b.lines letter).opening) ≡ true) where
   abbrev e : Entry
   e = record { before = b; call = declare letter amount; answer = declared letter amount; later = with_line b letter (declared_line amount) }
 
@@ -28,8 +27,8 @@ module _ (h : List Entry) (b : Book) (letter amount : ℕ) (i : Invariant h b) (
   holds : LineHolds (with h e) letter (declared_line amount)
   holds =
       let l = i.lines letter in
-      let u : (b.lines letter).opening ≡ none = not_given (b.lines letter).opening q7 in
-      let c : (b.lines letter).closed ≡ none = l.unclosed u in
+      let u : (b.lines letter).opening ≡ None = not_given (b.lines letter).opening q7 in
+      let c : (b.lines letter).closed ≡ None = l.unclosed u in
       let k : (b.lines letter).kept ≡ [] = l.unkept u in
       let z : losses_in h letter +ℤ pos 0 ≡ paid_in h letter +ℤ pos 0 = rw (u, c) at l.balance in
       let z2 : losses_in h letter ≡ paid_in h letter = rw (+ℤ_idr (losses_in h letter), +ℤ_idr (paid_in h letter)) at z in
@@ -42,7 +41,7 @@ module _ (h : List Entry) (b : Book) (letter amount : ℕ) (i : Invariant h b) (
         patterns = tt;
         newest = λ year pay more s.
             let r = l.newest year pay more (rw (payments_with h e letter year, append-nil (payments_in h letter year)) at s) in
-            absurd (some≢none r.pattern (sym (rw k at r.is)));
+            absurd (Some≢None r.pattern (sym (rw k at r.is)));
         balance = rw (losses_with h e letter, paid_with h e letter, +ℤ_idr (losses_in h letter), +ℤ_idr (paid_in h letter), z2);
         sums = sums_same h e letter no_totals (rw (← l.zeros c) l.sums) refl refl refl refl;
         zeros = λ s. refl;

@@ -1,14 +1,14 @@
 -- An accepted RATE, in either form, leaves the invariant standing, with its entry added.
 -- Assumes nothing.
-use Rattle.std.specs.Prelude.{if◌then◌else◌}
+use Rattle.std.specs.Prelude.{if◌then◌else◌, None, Some, is_some}
 use mathlib.Core.Path.{◌≡◌, refl, sym, ap, ◌∙◌}
 use mathlib.Core.Bool.{Bool, true, false, not}
 use mathlib.Core.List.{List, [], ◌∷◌, map, append-nil}
-use mathlib.Core.Option.{none, some}
 use Prim.Native.Nat.{ℕ}
 use borrow.Author.Tests.{eq-eqb, eqb-true}
 use lib.Dec.{eqb}
-use Rattle.model.specs.Basics.{given, all, joined}
+use Rattle.model.specs.Basics.{joined}
+use Rattle.std.specs.List.{list_all}
 use Rattle.model.specs.Rate.{rate_of, sixty_months}
 use Rattle.model.specs.Book.{Book}
 use Rattle.model.specs.Call.{set_rate, set_rate_from_register}
@@ -20,15 +20,15 @@ use Rattle.model.proofs.Months.{one, dates, joined_ones, given_ones}
 use Rattle.model.proofs.Entries.{with, rates_with, Holding, Fresh}
 use Rattle.model.proofs.Invariant.{Aside, Invariant, aside, entries_with, months_as}
 
-module _ (h : List Entry) (b : Book) (year rate : ℕ) (i : Invariant h b) (q7 : not (given (b.rates year)) ≡ true) where
-  fresh_at : (y r : ℕ) (t : Bool) → eqb y year ≡ t → rates_in h y ≡ r ∷ [] → (if t then some rate else none) ≡ none
+module _ (h : List Entry) (b : Book) (year rate : ℕ) (i : Invariant h b) (q7 : not (is_some (b.rates year)) ≡ true) where
+  fresh_at : (y r : ℕ) (t : Bool) → eqb y year ≡ t → rates_in h y ≡ r ∷ [] → (if t then Some rate else None) ≡ None
   fresh_at y r true e s =
-      let q : b.rates y ≡ none = rw (eqb-true y year e) (not_given (b.rates year) q7) in
+      let q : b.rates y ≡ None = rw (eqb-true y year e) (not_given (b.rates year) q7) in
       absurd (cons≢nil r [] (sym s ∙ i.rates y ∙ ap listed q))
   fresh_at y r false e s = refl
 
   -- an entry that gives the year this rate and says nothing else
-  module _ (e : Entry) (gives : (y : ℕ) → rate_from (taken_in (with h e)) y e.call ≡ (if eqb y year then some rate else none)) (no_month : (y m : ℕ) → month_from y m e.call ≡ none) (nothing : (letter : ℕ) → Aside e letter) where
+  module _ (e : Entry) (gives : (y : ℕ) → rate_from (taken_in (with h e)) y e.call ≡ (if eqb y year then Some rate else None)) (no_month : (y m : ℕ) → month_from y m e.call ≡ None) (nothing : (letter : ℕ) → Aside e letter) where
     fresh : Fresh h e
     fresh =
         record {
@@ -41,7 +41,7 @@ module _ (h : List Entry) (b : Book) (year rate : ℕ) (i : Invariant h b) (q7 :
     rate_put : Holding (with h e) e → Invariant (with h e) (with_rate b year rate)
     rate_put holds =
         record {
-          rates = put_all (λ y o. rates_in (with h e) y ≡ listed o) b.rates year (some rate)
+          rates = put_all (λ y o. rates_in (with h e) y ≡ listed o) b.rates year (Some rate)
               (rw (rates_with h e fresh year, gives year, i.rates year, not_given (b.rates year) q7, eq-eqb year year refl))
               (λ j ne. rw (rates_with h e fresh j, gives j, ne, append-nil (rates_in h j)) (i.rates j));
           months = months_as h b e i no_month;
@@ -51,7 +51,7 @@ module _ (h : List Entry) (b : Book) (year rate : ℕ) (i : Invariant h b) (q7 :
         }
 
 -- "RATE, year, sixty rates"
-pub accept_rate : (h : List Entry) (b : Book) (year : ℕ) (months : List ℕ) → Invariant h b → not (given (b.rates year)) ≡ true
+pub accept_rate : (h : List Entry) (b : Book) (year : ℕ) (months : List ℕ) → Invariant h b → not (is_some (b.rates year)) ≡ true
     → Invariant (with h (record { before = b; call = set_rate year months; answer = rated year (rate_of months); later = with_rate b year (rate_of months) })) (with_rate b year (rate_of months))
 accept_rate h b year months i q7 =
     let e : Entry = record { before = b; call = set_rate year months; answer = rated year (rate_of months); later = with_rate b year (rate_of months) } in
@@ -60,7 +60,7 @@ accept_rate h b year months i q7 =
     tt
 
 -- "RATE with a year alone"
-module _ (h : List Entry) (b : Book) (year : ℕ) (held : (y m : ℕ) → months_in h y m ≡ listed (b.register y m)) (q14 : all given (sixty_months b.register year) ≡ true) where
+module _ (h : List Entry) (b : Book) (year : ℕ) (held : (y m : ℕ) → months_in h y m ≡ listed (b.register y m)) (q14 : list_all is_some (sixty_months b.register year) ≡ true) where
   -- the accepted MIDTs give the months that the register holds, one for each
   pub sixty_given : sixty_months (months_in h) year ≡ map one (months_taken b year)
   sixty_given = months_same (dates year) ∙ given_ones (sixty_months b.register year) q14
@@ -73,7 +73,7 @@ module _ (h : List Entry) (b : Book) (year : ℕ) (held : (y m : ℕ) → months
   unfolding taken_in
   all_taken = ap joined sixty_given ∙ joined_ones (months_taken b year)
 
-pub accept_rate_from_register : (h : List Entry) (b : Book) (year : ℕ) → Invariant h b → not (given (b.rates year)) ≡ true → all given (sixty_months b.register year) ≡ true
+pub accept_rate_from_register : (h : List Entry) (b : Book) (year : ℕ) → Invariant h b → not (is_some (b.rates year)) ≡ true → list_all is_some (sixty_months b.register year) ≡ true
     → let rate = rate_of (months_taken b year) in Invariant (with h (record { before = b; call = set_rate_from_register year; answer = rated year rate; later = with_rate b year rate })) (with_rate b year rate)
 accept_rate_from_register h b year i q7 q14 =
     let months : List ℕ = months_taken b year in

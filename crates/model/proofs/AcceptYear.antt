@@ -1,5 +1,6 @@
 -- An accepted YEAR leaves the invariant standing, with its entry added.
 -- Assumes nothing.
+use Rattle.std.specs.Prelude.{is_some, unwrap_or}
 use mathlib.Core.Path.{◌≡◌, refl, sym, ap, ◌∙◌, ◌≡⟨◌⟩◌, ◌∎}
 use mathlib.Core.Bool.{true}
 use mathlib.Core.List.{List, append-nil}
@@ -8,7 +9,6 @@ use native.Mathlib.Omega.{arith}
 use borrow.Author.Tests.{eq-eqb}
 use lib.ListN.{take}
 use lib.IntN.{ℤ, pos, ◌+ℤ◌, ◌-ℤ◌, +ℤ_assoc, +ℤ_comm, -ℤ-+ℤ_cancel}
-use Rattle.model.specs.Basics.{given, or_default}
 use Rattle.model.specs.Letter.{ages}
 use Rattle.model.specs.Row.{Row, rows_of}
 use Rattle.model.specs.Book.{Book, Line, latest}
@@ -19,7 +19,7 @@ use Rattle.model.specs.Answer.{tax}
 use Rattle.model.specs.Step.{with_line, with_year, with_closing}
 use Rattle.model.specs.History.{Entry, payments_in, kept_in, openings_in, paid_in, losses_in}
 use Rattle.model.specs.Demand.{YearHolds}
-use Rattle.model.proofs.Lists.{some≢none, is_given, put_all}
+use Rattle.model.proofs.Lists.{Some≢None, is_given, put_all}
 use Rattle.model.proofs.Entries.{with, payments_with, kept_with, openings_with, closed_with, losses_with, paid_with, Fresh, entry_with}
 use Rattle.model.proofs.Sums.{sums_more}
 use Rattle.model.proofs.Invariant.{LineHolds, Invariant, aside, all_near_with, entries_with, rates_as, months_as}
@@ -40,7 +40,7 @@ add_up x q p c s t e =
 
 module _ (h : List Entry) (b : Book) (letter year : ℕ) (paid : List ℤ) (unpaid tabular : List ℕ) (i : Invariant h b)
     (q4 : has_lengths (close_year letter year paid unpaid tabular) ≡ true)
-    (q8 : given (b.lines letter).opening ≡ true)
+    (q8 : is_some (b.lines letter).opening ≡ true)
     (q10 : is_year_of (latest (b.lines letter).kept) year ≡ true)
     (q13 : have_kept (b.lines letter).kept year 0 (take (ages letter) (rows_of paid unpaid tabular)) ≡ true) where
   abbrev rows : List Row
@@ -83,14 +83,14 @@ module _ (h : List Entry) (b : Book) (letter year : ℕ) (paid : List ℤ) (unpa
         declared = rw (openings_with h e letter, append-nil (openings_in h letter)) l.declared;
         closed = rw (closed_with h e letter, eq-eqb letter letter refl);
         kept = rw (kept_with h e letter, append-nil (kept_in h letter)) l.kept;
-        unclosed = λ u. absurd (some≢none d.0 (sym d.1 ∙ u));
+        unclosed = λ u. absurd (Some≢None d.0 (sym d.1 ∙ u));
         unkept = l.unkept;
         patterns = all_near_with h e fresh letter (b.lines letter).kept l.patterns;
         newest = λ y pay more s. l.newest y pay more (rw (payments_with h e letter y, append-nil (payments_in h letter y)) at s);
         balance = rw (losses_with h e letter, paid_with h e letter, eq-eqb letter letter refl, ← paid_total_is letter year paid unpaid tabular q4)
-            (add_up (losses_in h letter) (paid_in h letter) (paid_total rows) (pos amount) (pos (or_default (b.lines letter).opening 0)) (pos (opening (b.lines letter))) l.balance);
+            (add_up (losses_in h letter) (paid_in h letter) (paid_total rows) (pos amount) (pos (unwrap_or (b.lines letter).opening 0)) (pos (opening (b.lines letter))) l.balance);
         sums = sums_more h e letter (b.lines letter).totals l.sums year (paid_total rows) tax_loss (rw (eq-eqb letter letter refl)) (rw (eq-eqb letter letter refl, ← paid_total_is letter year paid unpaid tabular q4)) (rw (eq-eqb letter letter refl)) (rw (eq-eqb letter letter refl));
-        zeros = λ u. absurd (some≢none (record { year = year; closing = amount }) u);
+        zeros = λ u. absurd (Some≢None (record { year = year; closing = amount }) u);
       }
 
   pub accept_year : Invariant (with h e) (with_line b letter line)

@@ -1,9 +1,9 @@
 -- Demand 3, proved of every list of requests from the empty book; and of the lines of every input.
 -- Assumes nothing.
+use Rattle.std.specs.Prelude.{Option, None, Some}
 use mathlib.Core.Path.{◌≡◌, refl, sym, ap, ◌∙◌, ◌≡⟨◌⟩◌, ◌∎}
 use mathlib.Core.Bool.{Bool, ◌&&◌}
 use mathlib.Core.List.{List, [], ◌∷◌, ◌++◌, append_assoc, append-nil}
-use mathlib.Core.Option.{Option, none, some}
 use Prim.Native.Nat.{ℕ}
 use borrow.Author.Tests.{eqb-true}
 use lib.Dec.{eqb}
@@ -19,7 +19,7 @@ use Rattle.model.specs.Step.{Request, asked, questions, refuse, accept, step}
 use Rattle.model.specs.Run.{after, records_of}
 use Rattle.model.specs.History.{Entry, entry, enter, accepted, listed, months_in, rates_in, payments_in, kept_in, openings_in, years_in, paid_in, paid_answered_in, losses_in, closed_in}
 use Rattle.model.specs.Demand.{LossesAddUp, Reconciles, Sums, TotalsHold, Demand}
-use Rattle.model.proofs.Lists.{some≢none, cons≢nil, and_left, and_right}
+use Rattle.model.proofs.Lists.{Some≢None, cons≢nil, and_left, and_right}
 use Rattle.model.proofs.Steps.{step_is}
 use Rattle.model.proofs.Passed.{Passed, passed}
 use Rattle.model.proofs.Ages.{length_ages_of}
@@ -59,10 +59,10 @@ refuse_holds h b question i = record { rates = i.rates; months = i.months; month
 -- the list, a request at a time: what holds of the entries so far holds of them with those of the rest
 one : (h : List Entry) (b : Book) (r : Request) (rs : List Request) → Invariant h b → ((h : List Entry) (b : Book) → Invariant h b → Invariant (h ++ accepted b rs) (after b rs))
     → (q : Option ℕ) → first_no (questions b r) ≡ q → Invariant (h ++ enter q (entry b r) (accepted (step b r).book rs)) (after (step b r).book rs)
-one h b r rs i rest none e =
-    let later : Invariant (with h (entry b r)) (step b r).book = rw (step_is b r none e) (accept_holds h b (asked r) i (passed b r e)) in
+one h b r rs i rest None e =
+    let later : Invariant (with h (entry b r)) (step b r).book = rw (step_is b r None e) (accept_holds h b (asked r) i (passed b r e)) in
     rw append_assoc at (rest (with h (entry b r)) (step b r).book later)
-one h b r rs i rest (some question) e = rest h (step b r).book (rw (step_is b r (some question) e) (refuse_holds h b question i))
+one h b r rs i rest (Some question) e = rest h (step b r).book (rw (step_is b r (Some question) e) (refuse_holds h b question i))
 
 all : (rs : List Request) (h : List Entry) (b : Book) → Invariant h b → Invariant (h ++ accepted b rs) (after b rs)
 unfolding accepted after
@@ -95,10 +95,10 @@ pub stands : (requests : List Request) → Invariant (accepted empty requests) (
 stands requests = all requests [] empty none_yet
 
 -- the losses, from the invariant's balance
-losses_add_up : (h : List Entry) (letter : ℕ) (line : Line) (o : Option ℕ) (last : Closed) → line.opening ≡ o → LineHolds h letter line → closed_in h letter ≡ some last → LossesAddUp h letter last.closing
-losses_add_up h letter line none last e l s = absurd (some≢none last (sym s ∙ sym l.closed ∙ l.unclosed e))
-losses_add_up h letter line (some declared) last e l s =
-    let c : line.closed ≡ some last = l.closed ∙ s in
+losses_add_up : (h : List Entry) (letter : ℕ) (line : Line) (o : Option ℕ) (last : Closed) → line.opening ≡ o → LineHolds h letter line → closed_in h letter ≡ Some last → LossesAddUp h letter last.closing
+losses_add_up h letter line None last e l s = absurd (Some≢None last (sym s ∙ sym l.closed ∙ l.unclosed e))
+losses_add_up h letter line (Some declared) last e l s =
+    let c : line.closed ≡ Some last = l.closed ∙ s in
     let w : losses_in h letter +ℤ pos declared ≡ paid_in h letter +ℤ pos last.closing = rw (e, c) at l.balance in
     record {
       declared = declared;

@@ -1,10 +1,9 @@
 -- The terms of demand 3 with one accepted record more.
 -- Assumes nothing.
-use Rattle.std.specs.Prelude.{if◌then◌else◌}
+use Rattle.std.specs.Prelude.{if◌then◌else◌, Option, None, Some}
 use mathlib.Core.Path.{◌≡◌, refl, sym, ap}
 use mathlib.Core.List.{List, [], ◌∷◌, ◌++◌, map, append_assoc, append-nil}
 use mathlib.Core.Logic.{⊎_elim}
-use mathlib.Core.Option.{Option, none, some}
 use Prim.Native.Nat.{ℕ, ◌<◌}
 use native.Mathlib.Nat.{eq-zero-or-pos}
 use lib.Dec.{eqb}
@@ -24,12 +23,12 @@ use Rattle.model.proofs.Months.{one, dates, ones_same}
 use Rattle.model.proofs.RowBound.{nothing_near}
 
 or_assoc : {A : Type 0} (a b c : Option A) → or_else a (or_else b c) ≡ or_else (or_else a b) c
-or_assoc none b c = refl
-or_assoc (some a) b c = refl
+or_assoc None b c = refl
+or_assoc (Some a) b c = refl
 
-or_none : {A : Type 0} (a : Option A) → or_else a none ≡ a
-or_none none = refl
-or_none (some a) = refl
+or_none : {A : Type 0} (a : Option A) → or_else a None ≡ a
+or_none None = refl
+or_none (Some a) = refl
 
 gather_snoc : {A : Type 0} (f : Entry → Option A) (h : List Entry) (e : Entry) → gather f (h ++ (e ∷ [])) ≡ gather f h ++ listed (f e)
 gather_snoc f [] e = append-nil (listed (f e))
@@ -94,9 +93,9 @@ Holding h e = EntryHolds h e.before e.answer e.later e.call
 
 -- the entry gives no rate, month or pattern that the entries have already
 pub record Fresh (h : List Entry) (e : Entry) : Type 0 where
-  pub rates : (year rate : ℕ) → rates_in h year ≡ rate ∷ [] → rate_from (taken_in (with h e)) year e.call ≡ none
-  pub months : (year month rate : ℕ) → months_in h year month ≡ rate ∷ [] → month_from year month e.call ≡ none
-  pub patterns : (letter year : ℕ) (pay : List ℕ) → payments_in h letter year ≡ pay ∷ [] → payments_from letter year e.call ≡ none
+  pub rates : (year rate : ℕ) → rates_in h year ≡ rate ∷ [] → rate_from (taken_in (with h e)) year e.call ≡ None
+  pub months : (year month rate : ℕ) → months_in h year month ≡ rate ∷ [] → month_from year month e.call ≡ None
+  pub patterns : (letter year : ℕ) (pay : List ℕ) → payments_in h letter year ≡ pay ∷ [] → payments_from letter year e.call ≡ None
   pub standing : Every (Holding h) h
 
 -- what holds of an accepted record still holds with a fresh one more
@@ -122,7 +121,7 @@ module _ (h : List Entry) (e : Entry) (fresh : Fresh h e) where
   same_rate y before answer later (close_year letter year paid unpaid tabular) n = refl
   same_rate y before answer later (totals letter) n = refl
   same_rate y before answer later (register_month year month rate) n = refl
-  same_rate y before answer later (set_rate_from_register year) n = ap (λ (months : List ℕ). if eqb y year then some (rate_of months) else none) (same_taken answer year n)
+  same_rate y before answer later (set_rate_from_register year) n = ap (λ (months : List ℕ). if eqb y year then Some (rate_of months) else None) (same_taken answer year n)
 
   pub rates_with : (year : ℕ) → rates_in (with h e) year ≡ rates_in h year ++ listed (rate_from (taken_in (with h e)) year e.call)
   unfolding rates_in

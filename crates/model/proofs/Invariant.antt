@@ -1,13 +1,14 @@
 -- What ties the book to the accepted records so far, and that a record of another line leaves a line's part of it standing.
 -- Assumes nothing.
+use Rattle.std.specs.Prelude.{Option, None, Some, unwrap_or}
 use mathlib.Core.Bool.{true}
 use mathlib.Core.Path.{◌≡◌}
 use mathlib.Core.List.{List, [], ◌∷◌, reverse, append-nil}
-use mathlib.Core.Option.{Option, none, some}
 use Prim.Native.Nat.{ℕ, ◌≤◌}
 use lib.ListN.{take}
 use lib.IntN.{pos, ◌+ℤ◌, +ℤ_idr}
-use Rattle.model.specs.Basics.{or_default, all, Every}
+use Rattle.model.specs.Basics.{Every}
+use Rattle.std.specs.List.{list_all}
 use Rattle.model.specs.Kind.{is_rate}
 use Rattle.model.specs.Letter.{ages}
 use Rattle.model.specs.Book.{Book, no_totals, Line, Kept, latest}
@@ -21,35 +22,35 @@ use Rattle.model.proofs.Entries.{with, months_with, rates_with, payments_with, k
 -- the last kept pattern is of that year or of a later one
 pub record Reached (last : Option Kept) (year : ℕ) : Type 0 where
   pub pattern : Kept
-  pub is : last ≡ some pattern
+  pub is : last ≡ Some pattern
   pub by : year ≤ pattern.year
 
 pub record LineHolds (h : List Entry) (letter : ℕ) (line : Line) : Type 0 where
   pub declared : openings_in h letter ≡ listed line.opening
   pub closed : line.closed ≡ closed_in h letter
   pub kept : line.kept ≡ take (ages letter) (reverse (kept_in h letter))
-  pub unclosed : line.opening ≡ none → line.closed ≡ none
-  pub unkept : line.opening ≡ none → line.kept ≡ []
+  pub unclosed : line.opening ≡ None → line.closed ≡ None
+  pub unkept : line.opening ≡ None → line.kept ≡ []
   pub patterns : Every (KeptNear h letter) line.kept
   pub newest : (year : ℕ) (pay : List ℕ) (more : List (List ℕ)) → payments_in h letter year ≡ pay ∷ more → Reached (latest line.kept) year
-  pub balance : losses_in h letter +ℤ pos (or_default line.opening 0) ≡ paid_in h letter +ℤ pos (opening line)
+  pub balance : losses_in h letter +ℤ pos (unwrap_or line.opening 0) ≡ paid_in h letter +ℤ pos (opening line)
   pub sums : Sums h letter line.totals
-  pub zeros : line.closed ≡ none → line.totals ≡ no_totals
+  pub zeros : line.closed ≡ None → line.totals ≡ no_totals
 
 pub record Invariant (h : List Entry) (b : Book) : Type 0 where
   pub rates : (year : ℕ) → rates_in h year ≡ listed (b.rates year)
   pub months : (year month : ℕ) → months_in h year month ≡ listed (b.register year month)
-  pub months_within : (year month : ℕ) → all is_rate (listed (b.register year month)) ≡ true
+  pub months_within : (year month : ℕ) → list_all is_rate (listed (b.register year month)) ≡ true
   pub lines : (letter : ℕ) → LineHolds h letter (b.lines letter)
   pub entries : Every (Holding h) h
 
 -- an entry that says nothing of the line
 pub record Aside (e : Entry) (letter : ℕ) : Type 0 where
-  pub no_opening : declared_from letter e.call ≡ none
-  pub no_closing : closed_from letter e.answer ≡ none
-  pub no_payments : (year : ℕ) → payments_from letter year e.call ≡ none
-  pub no_kept : kept_from letter e.call e.later ≡ none
-  pub no_year : year_from letter e.call ≡ none
+  pub no_opening : declared_from letter e.call ≡ None
+  pub no_closing : closed_from letter e.answer ≡ None
+  pub no_payments : (year : ℕ) → payments_from letter year e.call ≡ None
+  pub no_kept : kept_from letter e.call e.later ≡ None
+  pub no_year : year_from letter e.call ≡ None
   pub no_loss : loss_from letter e.answer ≡ pos 0
   pub no_paid : paid_from letter e.call ≡ pos 0
   pub no_paid_answered : paid_answered letter e.answer ≡ pos 0
@@ -81,8 +82,8 @@ module _ (h : List Entry) (e : Entry) (fresh : Fresh h e) where
       n
 
 -- an entry that gives no rate, or no month
-pub rates_as : (h : List Entry) (b : Book) (e : Entry) → Invariant h b → Fresh h e → ((year : ℕ) → rate_from (taken_in (with h e)) year e.call ≡ none) → (year : ℕ) → rates_in (with h e) year ≡ listed (b.rates year)
+pub rates_as : (h : List Entry) (b : Book) (e : Entry) → Invariant h b → Fresh h e → ((year : ℕ) → rate_from (taken_in (with h e)) year e.call ≡ None) → (year : ℕ) → rates_in (with h e) year ≡ listed (b.rates year)
 rates_as h b e i fresh n year = rw (rates_with h e fresh year, n year, append-nil (rates_in h year)) (i.rates year)
 
-pub months_as : (h : List Entry) (b : Book) (e : Entry) → Invariant h b → ((year month : ℕ) → month_from year month e.call ≡ none) → (year month : ℕ) → months_in (with h e) year month ≡ listed (b.register year month)
+pub months_as : (h : List Entry) (b : Book) (e : Entry) → Invariant h b → ((year month : ℕ) → month_from year month e.call ≡ None) → (year month : ℕ) → months_in (with h e) year month ≡ listed (b.register year month)
 months_as h b e i n year month = rw (months_with h e year month, n year month, append-nil (months_in h year month)) (i.months year month)

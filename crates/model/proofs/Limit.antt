@@ -1,25 +1,24 @@
 -- F-3: with any limit of 418 bytes or more the same lines are accepted, and only the number of a longer line's refusal differs.
 -- Assumes nothing.
-use Rattle.std.specs.Prelude.{if◌then◌else◌}
+use Rattle.std.specs.Prelude.{if◌then◌else◌, Option, None, Some, is_some}
 use mathlib.Core.Path.{◌≡◌, refl, sym, ap, ◌∙◌}
 use mathlib.Core.Bool.{Bool, true, false}
 use mathlib.Core.List.{List, [], ◌∷◌, ◌++◌}
 use mathlib.Core.Logic.{⊎_elim}
-use mathlib.Core.Option.{Option, none, some}
 use Prim.Native.Nat.{ℕ, ◌-◌, ◌≤◌, ◌<◌}
 use native.Mathlib.Omega.{arith}
 use native.Mathlib.Nat.{eq-zero-or-pos}
 use borrow.Author.Tests.{le-leb, lt-leb, ltb-true}
 use lib.Dec.{ltb}
 use lib.ListN.{length, drop}
-use Rattle.model.specs.Basics.{given, all}
+use Rattle.std.specs.List.{list_all}
 use Rattle.model.specs.Book.{Book}
 use Rattle.model.specs.Call.{Call}
 use Rattle.model.specs.Question.{longest, line_questions, book_questions, first_no}
 use Rattle.model.specs.Step.{Request, as_bytes, as_numbers, call_of, questions, refuse, accept, settle, step}
 use Rattle.model.specs.Run.{after}
 use Rattle.model.specs.Limit.{questions_within, step_within, after_within}
-use Rattle.model.proofs.Lists.{true≢false, some≢none, and_left, and_right, is_given}
+use Rattle.model.proofs.Lists.{true≢false, Some≢None, and_left, and_right, is_given}
 use Rattle.model.proofs.Steps.{step_is, first_is_length, long_line}
 use Rattle.model.proofs.Longest.{at_most_longest}
 
@@ -31,11 +30,11 @@ by_size n limit short long =
     (eq-zero-or-pos (n - limit))
 
 -- where no question has a no, none of the first ones has
-none_before : (qs more : List (ℕ × Bool)) → first_no (qs ++ more) ≡ none → first_no qs ≡ none
+none_before : (qs more : List (ℕ × Bool)) → first_no (qs ++ more) ≡ None → first_no qs ≡ None
 none_before [] more e = refl
 none_before (q ∷ qs) more e = by_answer q.1 e (none_before qs more)
   where
-    by_answer : (t : Bool) → (if t then first_no (qs ++ more) else some q.0) ≡ none → (first_no (qs ++ more) ≡ none → first_no qs ≡ none) → (if t then first_no qs else some q.0) ≡ none
+    by_answer : (t : Bool) → (if t then first_no (qs ++ more) else Some q.0) ≡ None → (first_no (qs ++ more) ≡ None → first_no qs ≡ None) → (if t then first_no qs else Some q.0) ≡ None
     by_answer true h rest = rest h
     by_answer false h rest = h
 
@@ -43,45 +42,45 @@ none_before (q ∷ qs) more e = by_answer q.1 e (none_before qs more)
 abbrev is_later : (ℕ × Bool) → Bool
 is_later q = ltb 1 q.0
 
-later_no : (qs : List (ℕ × Bool)) → all is_later qs ≡ true → (n : ℕ) → first_no qs ≡ some n → 1 < n
-later_no [] h n e = absurd (some≢none n (sym e))
-later_no (q ∷ qs) h n e = by_answer q.1 e (later_no qs (and_right (is_later q) (all is_later qs) h) n)
+later_no : (qs : List (ℕ × Bool)) → list_all is_later qs ≡ true → (n : ℕ) → first_no qs ≡ Some n → 1 < n
+later_no [] h n e = absurd (Some≢None n (sym e))
+later_no (q ∷ qs) h n e = by_answer q.1 e (later_no qs (and_right (is_later q) (list_all is_later qs) h) n)
   where
-    by_answer : (t : Bool) → (if t then first_no qs else some q.0) ≡ some n → (first_no qs ≡ some n → 1 < n) → 1 < n
+    by_answer : (t : Bool) → (if t then first_no qs else Some q.0) ≡ Some n → (first_no qs ≡ Some n → 1 < n) → 1 < n
     by_answer true g rest = rest g
-    by_answer false g rest = let same : q.0 ≡ n = cc in omega (arith, same, ltb-true 1 q.0 (and_left (is_later q) (all is_later qs) h))
+    by_answer false g rest = let same : q.0 ≡ n = cc in omega (arith, same, ltb-true 1 q.0 (and_left (is_later q) (list_all is_later qs) h))
 
--- given or not, the same: nothing, where nothing is given
-both_none : (o p : Option ℕ) → given o ≡ given p → o ≡ none → p ≡ none
-both_none o none e n = refl
-both_none o (some q) e n = absurd (true≢false (sym e ∙ ap given n))
+-- some or none, the same: none, where the other is none
+both_none : (o p : Option ℕ) → is_some o ≡ is_some p → o ≡ None → p ≡ None
+both_none o None e n = refl
+both_none o (Some q) e n = absurd (true≢false (sym e ∙ ap is_some n))
 
-is_some : (o : Option ℕ) → (o ≡ none → ⊥) → given o ≡ true
-is_some none h = absurd (h refl)
-is_some (some q) h = refl
+not_none : (o : Option ℕ) → (o ≡ None → ⊥) → is_some o ≡ true
+not_none None h = absurd (h refl)
+not_none (Some q) h = refl
 
 -- a refusal leaves the same book, whatever its number
-same_refusals : (book : Book) (call : Call) (o : Option ℕ) → given o ≡ true → (settle o book call).book ≡ (refuse book 1).book
+same_refusals : (book : Book) (call : Call) (o : Option ℕ) → is_some o ≡ true → (settle o book call).book ≡ (refuse book 1).book
 unfolding refuse
-same_refusals book call none e = absurd (true≢false (sym e))
-same_refusals book call (some q) e = refl
+same_refusals book call None e = absurd (true≢false (sym e))
+same_refusals book call (Some q) e = refl
 
 module _ (limit : ℕ) (book : Book) (line : List ℕ) where
   -- the limit is in question 1 alone: up to it the later questions decide, and past it the answer is 1
   pub up_to_limit : length line ≤ limit → first_no (questions_within limit book line) ≡ first_no (drop 1 (questions book (as_bytes line)))
   up_to_limit short = rw (le-leb (length line) limit short)
 
-  pub past_limit : limit < length line → first_no (questions_within limit book line) ≡ some 1
+  pub past_limit : limit < length line → first_no (questions_within limit book line) ≡ Some 1
   past_limit long = rw (lt-leb (length line) limit long)
 
   -- a line of more than 418 bytes is refused, whatever the limit and the book
-  pub longer_is_refused : longest < length line → given (first_no (questions_within limit book line)) ≡ true
+  pub longer_is_refused : longest < length line → is_some (first_no (questions_within limit book line)) ≡ true
   unfolding questions line_questions
   longer_is_refused long =
       by_size (length line) limit
-      (λ short. is_some (first_no (questions_within limit book line)) (λ e.
+      (λ short. not_none (first_no (questions_within limit book line)) (λ e.
       omega (arith, at_most_longest line (none_before (drop 1 (line_questions line)) (book_questions book (call_of line)) (sym (up_to_limit short) ∙ e)))))
-      (λ past. ap given (past_limit past))
+      (λ past. ap is_some (past_limit past))
 
   -- by a later question, where the limit lets it through
   pub got_later : longest < length line → length line ≤ limit → (n : ℕ) × ((step_within limit book (as_bytes line) ≡ refuse book n) × (1 < n))
@@ -101,11 +100,11 @@ module _ (limit : ℕ) (enough : longest ≤ limit) (book : Book) (line : List �
   same_outcome short = ap (λ (o : Option ℕ). settle o book (call_of line)) (same_questions short) ∙ sym (step_is book (as_bytes line) (first_no (questions book (as_bytes line))) refl)
 
   -- the same lines are refused, and so the same accepted
-  pub same_refused : given (first_no (questions_within limit book line)) ≡ given (first_no (questions book (as_bytes line)))
+  pub same_refused : is_some (first_no (questions_within limit book line)) ≡ is_some (first_no (questions book (as_bytes line)))
   same_refused =
       by_size (length line) longest
-      (λ short. ap given (same_questions short))
-      (λ long. longer_is_refused limit book line long ∙ sym (ap given (first_is_length book line (lt-leb (length line) longest long))))
+      (λ short. ap is_some (same_questions short))
+      (λ long. longer_is_refused limit book line long ∙ sym (ap is_some (first_is_length book line (lt-leb (length line) longest long))))
 
   -- a line of any length leaves the same book
   pub same_book : (step_within limit book (as_bytes line)).book ≡ (step book (as_bytes line)).book
@@ -125,7 +124,7 @@ same_books limit enough book (as_numbers call ∷ requests) = same_books limit e
 pub record Moved (book : Book) (line : List ℕ) : Type 0 where
   pub later : longest < length line → length line ≤ 1024 → (n : ℕ) × ((step_within 1024 book (as_bytes line) ≡ refuse book n) × (1 < n))
   pub now : longest < length line → step book (as_bytes line) ≡ refuse book 1
-  pub accepted : first_no (questions_within 1024 book line) ≡ none → step book (as_bytes line) ≡ accept book (call_of line)
+  pub accepted : first_no (questions_within 1024 book line) ≡ None → step book (as_bytes line) ≡ accept book (call_of line)
   pub others : length line ≤ longest → step book (as_bytes line) ≡ step_within 1024 book (as_bytes line)
 
 pub moved : (book : Book) (line : List ℕ) → Moved book line
@@ -135,6 +134,6 @@ moved book line =
     record {
       later = got_later 1024 book line;
       now = long_line book line;
-      accepted = λ e. step_is book (as_bytes line) none (both_none before (first_no (questions book (as_bytes line))) same e);
+      accepted = λ e. step_is book (as_bytes line) None (both_none before (first_no (questions book (as_bytes line))) same e);
       others = λ short. sym (same_outcome 1024 (omega arith) book line short);
     }

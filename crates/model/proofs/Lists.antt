@@ -1,10 +1,9 @@
 -- Facts on lists, options and tests that no kit library has.
 -- Assumes nothing.
-use Rattle.std.specs.Prelude.{if◌then◌else◌}
+use Rattle.std.specs.Prelude.{if◌then◌else◌, Option, None, Some, is_some}
 use mathlib.Core.Path.{◌≡◌, refl, sym, ap}
 use mathlib.Core.Bool.{Bool, true, false, ◌&&◌, not}
 use mathlib.Core.List.{List, [], ◌∷◌, ◌++◌}
-use mathlib.Core.Option.{Option, none, some}
 use Prim.Native.Nat.{ℕ, zero, suc, ◌+◌, ◌≤◌, ◌<◌}
 use native.Mathlib.Omega.{arith}
 use borrow.Author.Tests.{eqb-true}
@@ -12,11 +11,12 @@ use lib.Dec.{eqb}
 use native.Mathlib.Numerals.{add-one}
 use lib.ListN.{length, take, drop, get_or, take-append-drop}
 use lib.Seq.{take-take, drop-cons}
-use Rattle.model.specs.Basics.{given, put, all, sum, Every, EveryAt}
+use Rattle.model.specs.Basics.{put, sum, Every, EveryAt}
+use Rattle.std.specs.List.{list_all}
 use Rattle.model.specs.Question.{first_no}
 
-pub some≢none : {A : Type 0} (a : A) → some a ≡ none → ⊥
-some≢none a e = let z : ◌≡◌ {A = ℕ} 0 1 = cc in omega arith
+pub Some≢None : {A : Type 0} (a : A) → Some a ≡ None → ⊥
+Some≢None a e = let z : ◌≡◌ {A = ℕ} 0 1 = cc in omega arith
 
 pub cons≢nil : {A : Type 0} (a : A) (l : List A) → a ∷ l ≡ [] → ⊥
 cons≢nil a l e = let z : ◌≡◌ {A = ℕ} 0 1 = cc in omega arith
@@ -29,13 +29,13 @@ pub only : {A : Type 0} {l : List A} (a b : A) → l ≡ a ∷ [] → l ≡ b �
 only a b p q = cc
 
 -- what is given is something
-pub is_given : {A : Type 0} (o : Option A) → given o ≡ true → (a : A) × (o ≡ some a)
-is_given none e = absurd (true≢false (sym e))
-is_given (some a) e = (a, refl)
+pub is_given : {A : Type 0} (o : Option A) → is_some o ≡ true → (a : A) × (o ≡ Some a)
+is_given None e = absurd (true≢false (sym e))
+is_given (Some a) e = (a, refl)
 
-pub not_given : {A : Type 0} (o : Option A) → not (given o) ≡ true → o ≡ none
-not_given none e = refl
-not_given (some a) e = absurd (true≢false (sym e))
+pub not_given : {A : Type 0} (o : Option A) → not (is_some o) ≡ true → o ≡ None
+not_given None e = refl
+not_given (Some a) e = absurd (true≢false (sym e))
 
 -- the code's `a && b`, where the test b is put only if a holds: t is what stands where its two ways meet
 pub meet_taken : (a b t : Bool) → a ≡ true → t ≡ b → t ≡ a && b
@@ -53,12 +53,12 @@ and_right true b e = e
 and_right false b e = absurd (true≢false (sym e))
 
 -- no question answered no: each is answered yes
-first_yes : (q : ℕ × Bool) (qs : List (ℕ × Bool)) (t : Bool) → q.1 ≡ t → (if t then first_no qs else some q.0) ≡ none → (first_no qs ≡ none → Every (λ p. p.1 ≡ true) qs)
+first_yes : (q : ℕ × Bool) (qs : List (ℕ × Bool)) (t : Bool) → q.1 ≡ t → (if t then first_no qs else Some q.0) ≡ None → (first_no qs ≡ None → Every (λ p. p.1 ≡ true) qs)
     → (q.1 ≡ true) × Every (λ p. p.1 ≡ true) qs
 first_yes q qs true e n rest = (e, rest n)
-first_yes q qs false e n rest = absurd (some≢none q.0 n)
+first_yes q qs false e n rest = absurd (Some≢None q.0 n)
 
-pub all_yes : (qs : List (ℕ × Bool)) → first_no qs ≡ none → Every (λ q. q.1 ≡ true) qs
+pub all_yes : (qs : List (ℕ × Bool)) → first_no qs ≡ None → Every (λ q. q.1 ≡ true) qs
 all_yes [] e = tt
 all_yes (q ∷ qs) e = first_yes q qs q.1 refl e (all_yes qs)
 
@@ -108,10 +108,10 @@ pub drop_next : {A : Type 0} (l : List A) (i : ℕ) (d : A) → i < length l →
 drop_next l i d lt = rw (add-one, drop-cons l i d lt)
 
 -- what holds of every element holds of each
-pub all_at : {A : Type 0} (test : A → Bool) (l : List A) (i : ℕ) (d : A) → all test l ≡ true → i < length l → test (get_or l i d) ≡ true
+pub all_at : {A : Type 0} (test : A → Bool) (l : List A) (i : ℕ) (d : A) → list_all test l ≡ true → i < length l → test (get_or l i d) ≡ true
 all_at test [] i d e lt = absurd (omega arith)
-all_at test (x ∷ xs) zero d e lt = and_left (test x) (all test xs) e
-all_at test (x ∷ xs) (suc i) d e lt = all_at test xs i d (and_right (test x) (all test xs) e) (omega arith)
+all_at test (x ∷ xs) zero d e lt = and_left (test x) (list_all test xs) e
+all_at test (x ∷ xs) (suc i) d e lt = all_at test xs i d (and_right (test x) (list_all test xs) e) (omega arith)
 
 pub sum_drop : (k : ℕ) (l : List ℕ) → sum (drop k l) ≤ sum l
 sum_drop k l = omega (arith, sum_append (take k l) (drop k l), ap sum (take-append-drop k l))

@@ -1,17 +1,16 @@
 -- "No accepted record can have more than 418 bytes": what questions 2 to 6 ask of a line's fields says how long it is at most.
 -- Assumes nothing.
-use Rattle.std.specs.Prelude.{if◌then◌else◌}
+use Rattle.std.specs.Prelude.{if◌then◌else◌, None}
 use mathlib.Core.Path.{◌≡◌, refl, sym, ◌∙◌}
 use mathlib.Core.Bool.{Bool, true, false, ◌&&◌}
 use mathlib.Core.List.{List, [], ◌∷◌, map}
-use mathlib.Core.Option.{none}
 use Prim.Native.Nat.{ℕ, zero, suc, ◌+◌, ◌-◌, ◌*◌, ◌%◌, ◌≤◌, ◌<◌}
 use native.Mathlib.Omega.{arith}
 use native.Mathlib.Nat.{mul-le-mul_right}
 use borrow.Author.Tests.{eqb-true, eq-eqb, ne_eqb}
 use lib.ListN.{length, drop, length-drop}
 use lib.Seq.{get_or-drop}
-use Rattle.model.specs.Basics.{all}
+use Rattle.std.specs.List.{list_all}
 use Rattle.model.specs.Letter.{ten_year, ages}
 use Rattle.model.specs.Field.{fields, field, column, letter_in}
 use Rattle.model.specs.Number.{natural, is_written, integer}
@@ -36,14 +35,14 @@ written_from w k (f ∷ fs) (suc j) h lt =
 
 -- each number of a column is within its limits
 module _ {A : Type 0} (test : A → Bool) (f : List ℕ → A) (step : ℕ) (fs : List (List ℕ)) where
-  in_column : (n k i : ℕ) → all test (map f (column n step k fs)) ≡ true → i < n → test (f (field (k + i * step) fs)) ≡ true
+  in_column : (n k i : ℕ) → list_all test (map f (column n step k fs)) ≡ true → i < n → test (f (field (k + i * step) fs)) ≡ true
   in_column zero k i h lt = absurd (omega arith)
   in_column (suc n) k zero h lt =
       let e : k + 0 * step ≡ k = omega arith in
-      rw e (and_left (test (f (field k fs))) (all test (map f (column n step (k + step) fs))) h)
+      rw e (and_left (test (f (field k fs))) (list_all test (map f (column n step (k + step) fs))) h)
   in_column (suc n) k (suc i) h lt =
       let e : k + step + i * step ≡ k + suc i * step = omega arith in
-      rw e at (in_column n (k + step) i (and_right (test (f (field k fs))) (all test (map f (column n step (k + step) fs))) h) (omega arith))
+      rw e at (in_column n (k + step) i (and_right (test (f (field k fs))) (list_all test (map f (column n step (k + step) fs))) h) (omega arith))
 
 -- a record that questions 2 to 6 let through, by its word and its fields
 pub record Passes (w : Word) (fs : List (List ℕ)) : Type 0 where
@@ -65,7 +64,7 @@ module _ (w : Word) (fs : List (List ℕ)) (p : Passes w fs) where
 
   -- a column of them
   numbers : {A : Type 0} (test : A → Bool) (g : List ℕ → A) (minus_allowed : Bool) (n step k : ℕ) → ((i : ℕ) → i < n → allows_minus w (k + i * step) ≡ minus_allowed) → first_number w ≤ k → k + n * step < length fs + step
-      → all test (map g (column n step k fs)) ≡ true → (i : ℕ) → i < n → is_written minus_allowed (field (k + i * step) fs) && test (g (field (k + i * step) fs)) ≡ true
+      → list_all test (map g (column n step k fs)) ≡ true → (i : ℕ) → i < n → is_written minus_allowed (field (k + i * step) fs) && test (g (field (k + i * step) fs)) ≡ true
   numbers test g minus_allowed n step k a le count h i lt =
       let within : i * step + step ≤ n * step = omega (arith, mul-le-mul_right {m = suc i} {n = n} step (omega arith)) in
       number minus_allowed _ (k + i * step) (a i lt) (omega arith) (omega (arith, within)) (in_column test g step fs n k i h lt)
@@ -128,7 +127,7 @@ module _ (fs : List (List ℕ)) where
       let n : ℕ = ages (letter_in fs) in
       let count : length fs ≡ 3 + n * 2 = p.count ∙ pattern_fields (letter_in fs) in
       let year_within : Bool = is_year (natural (field 2 fs)) in
-      let paid_within : Bool = year_within && all is_amount (map natural (column n 2 3 fs)) in
+      let paid_within : Bool = year_within && list_all is_amount (map natural (column n 2 3 fs)) in
       let first_two : paid_within ≡ true = and_left paid_within _ p.limits in
       let the_year = number PATT fs p false year_within 2 refl (omega arith) (omega (arith, count)) (and_left year_within _ first_two) in
       let the_paid = numbers PATT fs p is_amount natural false n 2 3 (λ i lt. refl) (omega arith) (omega (arith, count)) (and_right year_within _ first_two) in
@@ -141,8 +140,8 @@ module _ (fs : List (List ℕ)) where
       let n : ℕ = suc (ages (letter_in fs)) in
       let count : length fs ≡ 3 + n * 3 = p.count ∙ year_fields (letter_in fs) in
       let year_within : Bool = is_year (natural (field 2 fs)) in
-      let paid_within : Bool = year_within && all is_paid (map integer (column n 3 3 fs)) in
-      let unpaid_within : Bool = paid_within && all is_amount (map natural (column n 3 4 fs)) in
+      let paid_within : Bool = year_within && list_all is_paid (map integer (column n 3 3 fs)) in
+      let unpaid_within : Bool = paid_within && list_all is_amount (map natural (column n 3 4 fs)) in
       let first_three : unpaid_within ≡ true = and_left unpaid_within _ p.limits in
       let first_two : paid_within ≡ true = and_left paid_within _ first_three in
       let the_year = number YEAR fs p false year_within 2 refl (omega arith) (omega (arith, count)) (and_left year_within _ first_two) in
@@ -188,7 +187,7 @@ has_word_lem MIDT n = refl
 has_word_lem OTHER n = refl
 
 -- whatever question 1 asks, a line that passes questions 2 to 6 has at most 418 bytes
-pub at_most_longest : (line : List ℕ) → first_no (drop 1 (line_questions line)) ≡ none → length line ≤ longest
+pub at_most_longest : (line : List ℕ) → first_no (drop 1 (line_questions line)) ≡ None → length line ≤ longest
 unfolding line_questions
 at_most_longest line e =
     let fs : List (List ℕ) = fields line in

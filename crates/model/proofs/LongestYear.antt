@@ -1,8 +1,8 @@
 -- "and one can have as many": a YEAR of 418 bytes that is accepted after some records, computed.
 -- Assumes nothing.
+use Rattle.std.specs.Prelude.{None}
 use mathlib.Core.Path.{◌≡◌, refl}
 use mathlib.Core.List.{List, [], ◌++◌}
-use mathlib.Core.Option.{none}
 use Prim.Native.Nat.{ℕ, zero, suc, ◌+◌}
 use lib.ListN.{length}
 use Rattle.model.specs.Basics.{bytes}
@@ -40,6 +40,6 @@ longest_year = bytes "YEAR\t" ++ letter ++ bytes "\t2000" ++ times 11 (bytes "\t
 pub is_longest : length longest_year ≡ longest
 is_longest = refl
 
-pub is_accepted : first_no (questions (after empty (records_of (bytes "LINE\t" ++ letter ++ bytes "\t0\n" ++ years 10))) (as_bytes longest_year)) ≡ none
+pub is_accepted : first_no (questions (after empty (records_of (bytes "LINE\t" ++ letter ++ bytes "\t0\n" ++ years 10))) (as_bytes longest_year)) ≡ None
 unfolding after step questions refuse accept line_questions book_questions word_of all_written call_from natural is_plain is_written integer digits_before decimal fields lines_of cumulative_ratio ages ten_year two_year
 is_accepted = refl

@@ -1,11 +1,12 @@
 -- F-4: the sixty months of a year: what holds of each of a list of months holds of them.
 -- Assumes nothing.
+use Rattle.std.specs.Prelude.{Option, None, Some, is_some, unwrap_or}
 use mathlib.Core.Path.{◌≡◌, refl, sym, ap}
 use mathlib.Core.Bool.{Bool, true}
 use mathlib.Core.List.{List, [], ◌∷◌, map}
-use mathlib.Core.Option.{Option, none, some}
 use Prim.Native.Nat.{ℕ}
-use Rattle.model.specs.Basics.{given, or_default, all, joined}
+use Rattle.model.specs.Basics.{joined}
+use Rattle.std.specs.List.{list_all}
 use Rattle.model.specs.Rate.{sixty_months}
 use Rattle.model.specs.History.{listed}
 use Rattle.model.proofs.Lists.{true≢false, cons≢nil, and_left}
@@ -24,18 +25,18 @@ joined_ones [] = refl
 joined_ones (rate ∷ rates) = ap (λ (l : List ℕ). rate ∷ l) (joined_ones rates)
 
 -- where all are given, each gives one rate
-pub given_ones : (months : List (Option ℕ)) → all given months ≡ true → map listed months ≡ map one (map (λ o. or_default o 0) months)
+pub given_ones : (months : List (Option ℕ)) → list_all is_some months ≡ true → map listed months ≡ map one (map (λ o. unwrap_or o 0) months)
 given_ones [] e = refl
-given_ones (none ∷ months) e = absurd (true≢false (sym e))
-given_ones (some rate ∷ months) e = ap (λ (l : List (List ℕ)). one rate ∷ l) (given_ones months e)
+given_ones (None ∷ months) e = absurd (true≢false (sym e))
+given_ones (Some rate ∷ months) e = ap (λ (l : List (List ℕ)). one rate ∷ l) (given_ones months e)
 
 -- what holds of every rate that is listed, and of 0, holds of those taken
 module _ (test : ℕ → Bool) (zero_passes : test 0 ≡ true) where
-  taken_passes : (month : Option ℕ) → all test (listed month) ≡ true → test (or_default month 0) ≡ true
-  taken_passes none e = zero_passes
-  taken_passes (some rate) e = and_left (test rate) true e
+  taken_passes : (month : Option ℕ) → list_all test (listed month) ≡ true → test (unwrap_or month 0) ≡ true
+  taken_passes None e = zero_passes
+  taken_passes (Some rate) e = and_left (test rate) true e
 
-  pub all_pass : {A : Type 0} (f : A → Option ℕ) → ((a : A) → all test (listed (f a)) ≡ true) → (list : List A) → all test (map (λ month. or_default month 0) (map f list)) ≡ true
+  pub all_pass : {A : Type 0} (f : A → Option ℕ) → ((a : A) → list_all test (listed (f a)) ≡ true) → (list : List A) → list_all test (map (λ month. unwrap_or month 0) (map f list)) ≡ true
   all_pass f each [] = refl
   all_pass f each (a ∷ list) = rw (taken_passes (f a) (each a), all_pass f each list)
 

@@ -1,9 +1,9 @@
 -- What an accepted request has passed: a record as much as a call with numbers. And what that means for a pattern's payments.
 -- Assumes nothing.
+use Rattle.std.specs.Prelude.{None}
 use mathlib.Core.Path.{◌≡◌}
 use mathlib.Core.Bool.{Bool, true}
 use mathlib.Core.List.{List, ◌++◌}
-use mathlib.Core.Option.{none}
 use Prim.Native.Nat.{ℕ}
 use Rattle.model.specs.Basics.{sum, Every}
 use Rattle.model.specs.Pattern.{ages_of, whole}
@@ -66,7 +66,7 @@ unfolding questions
 by_request book (as_bytes line) y = of_line book line y
 by_request book (as_numbers call) y = of_call book call y
 
-pub passed : (book : Book) (request : Request) → first_no (questions book request) ≡ none → Passed book (asked request)
+pub passed : (book : Book) (request : Request) → first_no (questions book request) ≡ None → Passed book (asked request)
 passed book request e = by_request book request (all_yes (questions book request) e)
 
 -- the payments of every accepted pattern are a whole together

@@ -1,10 +1,9 @@
 -- The rows of a YEAR that is accepted: each is near, by the entries before it.
 -- Assumes nothing.
-use Rattle.std.specs.Prelude.{if◌then◌else◌}
+use Rattle.std.specs.Prelude.{if◌then◌else◌, Option, Some, is_some}
 use mathlib.Core.Path.{◌≡◌, refl, sym, ap, ◌∙◌, subst}
 use mathlib.Core.Bool.{Bool, true, false, ◌||◌}
 use mathlib.Core.List.{List, [], ◌∷◌}
-use mathlib.Core.Option.{Option, some}
 use mathlib.Core.Logic.{⊎_elim}
 use Prim.Native.Nat.{ℕ, zero, suc, ◌+◌, ◌-◌, ◌≤◌, ◌<◌}
 use native.Mathlib.Omega.{arith}
@@ -12,7 +11,7 @@ use native.Mathlib.Nat.{eq-zero-or-pos}
 use borrow.Author.Tests.{ne_eqb, eqb-true, lt-ltb, le-ltb}
 use lib.Dec.{eqb, ltb}
 use lib.ListN.{take, get_or}
-use Rattle.model.specs.Basics.{given, Every, EveryAt}
+use Rattle.model.specs.Basics.{Every, EveryAt}
 use Rattle.model.specs.Letter.{ages}
 use Rattle.model.specs.Published.{published}
 use Rattle.model.specs.Exact.{Fraction, exact_composite, composite_unpaid}
@@ -23,27 +22,27 @@ use Rattle.model.specs.Question.{have_kept, is_year_of}
 use Rattle.model.specs.Near.{FactorNear, RowNear}
 use Rattle.model.specs.History.{Entry}
 use Rattle.model.specs.Demand.{Given, unpaid_at, exact_at, KeptNear, RowHolds}
-use Rattle.model.proofs.Lists.{some≢none, only, is_given, and_left, and_right}
+use Rattle.model.proofs.Lists.{Some≢None, only, is_given, and_left, and_right}
 use Rattle.model.proofs.RowBound.{row_near, nothing_left, nothing_near}
 
 -- a pattern that is found has the year, and what holds of all
-find_at : (P : Kept → Type 0) (year : ℕ) (q : Kept) (kept : List Kept) (p : Kept) (t : Bool) → eqb year q.year ≡ t → (if t then some q else find year kept) ≡ some p → P q → (find year kept ≡ some p → P p × (p.year ≡ year))
+find_at : (P : Kept → Type 0) (year : ℕ) (q : Kept) (kept : List Kept) (p : Kept) (t : Bool) → eqb year q.year ≡ t → (if t then Some q else find year kept) ≡ Some p → P q → (find year kept ≡ Some p → P p × (p.year ≡ year))
     → P p × (p.year ≡ year)
 find_at P year q kept p true e s h rest = let i : q ≡ p = cc in (subst P i h, sym (ap (λ (x : Kept). x.year) i) ∙ sym (eqb-true year q.year e))
 find_at P year q kept p false e s h rest = rest s
 
-find_in : (P : Kept → Type 0) (year : ℕ) (kept : List Kept) (p : Kept) → find year kept ≡ some p → Every P kept → P p × (p.year ≡ year)
-find_in P year [] p e h = absurd (some≢none p (sym e))
+find_in : (P : Kept → Type 0) (year : ℕ) (kept : List Kept) (p : Kept) → find year kept ≡ Some p → Every P kept → P p × (p.year ≡ year)
+find_in P year [] p e h = absurd (Some≢None p (sym e))
 find_in P year (q ∷ kept) p e h = find_at P year q kept p (eqb year q.year) refl e h.0 (λ s. find_in P year kept p s h.1)
 
 -- a pattern that is found is near, by the rate and the payments of its year
 record Found (h : List Entry) (letter year : ℕ) (o : Option Kept) : Type 0 where
   pattern : Kept
-  is : o ≡ some pattern
+  is : o ≡ Some pattern
   near : KeptNear h letter pattern
   source : Given h letter year near.rate near.pay
 
-found : (h : List Entry) (letter year : ℕ) (kept : List Kept) → Every (KeptNear h letter) kept → given (find year kept) ≡ true → Found h letter year (find year kept)
+found : (h : List Entry) (letter year : ℕ) (kept : List Kept) → Every (KeptNear h letter) kept → is_some (find year kept) ≡ true → Found h letter year (find year kept)
 found h letter year kept all g =
     let s = is_given (find year kept) g in
     let f = find_in (KeptNear h letter) year kept s.0 s.1 all in
@@ -82,7 +81,7 @@ module _ (h : List Entry) (letter year : ℕ) (line : Line) (all : Every (KeptNe
       rw f.is (from_source h letter year row f.pattern.composite (exact_composite letter) (composite_unpaid letter) n.rate n.pay f.source n.composite_near)
 
   -- a row of an age: with gross it has a pattern
-  age_row : (k : ℕ) (row : Row) → k < ages letter → eqb (gross row) 0 || given (find (year - k) line.kept) ≡ true → RowHolds h letter year k row (discounted_row letter line year k row)
+  age_row : (k : ℕ) (row : Row) → k < ages letter → eqb (gross row) 0 || is_some (find (year - k) line.kept) ≡ true → RowHolds h letter year k row (discounted_row letter line year k row)
   age_row k row lt q =
       let e : ltb k (ages letter) ≡ true = lt-ltb k (ages letter) lt in
       let with_gross : 0 < gross row → Found h letter (year - k) (find (year - k) line.kept)
@@ -97,7 +96,7 @@ module _ (h : List Entry) (letter year : ℕ) (line : Line) (all : Every (KeptNe
             (eq-zero-or-pos (gross row)));
       }
 
-  own_found : (kept : List Kept) → is_year_of (latest kept) year ≡ true → given (find year kept) ≡ true
+  own_found : (kept : List Kept) → is_year_of (latest kept) year ≡ true → is_some (find year kept) ≡ true
   own_found [] q = q
   own_found (p ∷ kept) q = rw q refl
 
@@ -122,6 +121,6 @@ module _ (h : List Entry) (letter year : ℕ) (line : Line) (all : Every (KeptNe
       past j [] le = tt
       past j (r ∷ rest) le = (prior_row j r le own, past (suc j) rest (omega arith))
   rows_hold (suc n) k (row ∷ rows) e q own =
-      let first : Bool = eqb (gross row) 0 || given (find (year - k) line.kept) in
+      let first : Bool = eqb (gross row) 0 || is_some (find (year - k) line.kept) in
       let rest : Bool = have_kept line.kept year (suc k) (take n rows) in
       (age_row k row (omega arith) (and_left first rest q), rows_hold n (suc k) rows (omega arith) (and_right first rest q) own)

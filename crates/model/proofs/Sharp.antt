@@ -8,7 +8,7 @@ use mathlib.Core.Path.{◌≡◌, refl}
 use mathlib.Core.Bool.{true, ◌&&◌}
 use mathlib.Core.List.{map}
 use lib.ListN.{get_or, replicate}
-use Rattle.model.specs.Basics.{all}
+use Rattle.std.specs.List.{list_all}
 use Rattle.model.specs.Letter.{ten_year, two_year}
 use Rattle.model.specs.HalfYear.{with_digits, half_year}
 use Rattle.model.specs.Pattern.{Age, ages_of, cumulative_ratio}
@@ -27,7 +27,7 @@ given =
 abbrev pay : List ℕ
 pay = schedule (code "A") given
 
-pub taken : (all is_incurred given && climbs_from 0 (map cumulative_ratio given)) ≡ true
+pub taken : (list_all is_incurred given && climbs_from 0 (map cumulative_ratio given)) ≡ true
 unfolding cumulative_ratio
 taken = refl
 

@@ -1,17 +1,16 @@
 -- F-2: the questions that SUM meets; what it prints and changes, whatever the list before it; and document 01's run with a SUM after it, computed.
 -- Assumes nothing.
-use Rattle.std.specs.Prelude.{if◌then◌else◌}
+use Rattle.std.specs.Prelude.{if◌then◌else◌, Option, None, Some, is_some}
 use mathlib.Core.Bool.{Bool, true, false}
 use mathlib.Core.Path.{◌≡◌, refl}
 use mathlib.Core.List.{List, [], ◌∷◌}
-use mathlib.Core.Option.{Option, none, some}
 use Prim.Native.Nat.{ℕ}
 use native.Mathlib.Omega.{arith}
 use borrow.Author.Tests.{eqb-true}
 use lib.Dec.{eqb}
 use lib.ListN.{length, drop, drop_of_length-le}
 use lib.IntN.{pos}
-use Rattle.model.specs.Basics.{given, bytes}
+use Rattle.model.specs.Basics.{bytes}
 use Rattle.model.specs.Letter.{ten_year, two_year, covered, ages}
 use Rattle.model.specs.HalfYear.{with_digits, half_year}
 use Rattle.model.specs.Pattern.{cumulative_ratio}
@@ -36,21 +35,21 @@ use Rattle.model.proofs.Steps.{step_is}
 use Rattle.model.proofs.Demand.{demand}
 
 -- two fields have no number that could be badly written
-none_written : (fs : List (List ℕ)) (t : Bool) → eqb (length fs) 2 ≡ t → (later : Option ℕ) → (if t then (if all_written SUM 2 (drop 2 fs) then later else some 5) else some 4) ≡ (if t then later else some 4)
+none_written : (fs : List (List ℕ)) (t : Bool) → eqb (length fs) 2 ≡ t → (later : Option ℕ) → (if t then (if all_written SUM 2 (drop 2 fs) then later else Some 5) else Some 4) ≡ (if t then later else Some 4)
 unfolding all_written
 none_written fs true e later = rw (drop_of_length-le fs {i = 2} (omega (arith, eqb-true (length fs) 2 e)))
 none_written fs false e later = refl
 
 -- "SUM has two fields and meets questions 1 to 4 and 8.": of a line with that word, so that question 2 is answered yes
 pub sum_meets : (book : Book) (line : List ℕ) → word_of (field 0 (fields line)) ≡ SUM
-    → let letter = letter_in (fields line) in first_no (questions book (as_bytes line)) ≡ first_no ((1, is_short line) ∷ (3, covered letter) ∷ (4, eqb (length (fields line)) 2) ∷ (8, given (book.lines letter).opening) ∷ [])
+    → let letter = letter_in (fields line) in first_no (questions book (as_bytes line)) ≡ first_no ((1, is_short line) ∷ (3, covered letter) ∷ (4, eqb (length (fields line)) 2) ∷ (8, is_some (book.lines letter).opening) ∷ [])
 unfolding questions line_questions book_questions call_from
 sum_meets book line w =
-    let declared = given (book.lines (letter_in (fields line))).opening in
-    rw (w, none_written (fields line) (eqb (length (fields line)) 2) refl (if declared then none else some 8))
+    let declared = is_some (book.lines (letter_in (fields line))).opening in
+    rw (w, none_written (fields line) (eqb (length (fields line)) 2) refl (if declared then None else Some 8))
 
 -- and of the call with a letter
-pub sum_call_meets : (book : Book) (letter : ℕ) → first_no (questions book (as_numbers (totals letter))) ≡ first_no ((3, covered letter) ∷ (8, given (book.lines letter).opening) ∷ [])
+pub sum_call_meets : (book : Book) (letter : ℕ) → first_no (questions book (as_numbers (totals letter))) ≡ first_no ((3, covered letter) ∷ (8, is_some (book.lines letter).opening) ∷ [])
 unfolding questions call_questions book_questions
 sum_call_meets book letter = refl
 
@@ -64,16 +63,16 @@ module _ (requests : List Request) (request : Request) (letter : ℕ) where
       summed letter (length (years_in h letter)) (paid_in h letter) (losses_in h letter)
 
   -- "prints SUM, the letter, the count of closed years, all paid, and all tax-basis losses": the sums over the accepted YEARs of the list. Of the book it changes the accepted count alone.
-  pub sum_prints : asked request ≡ totals letter → first_no (questions before request) ≡ none → step before request ≡ record { book = counted before; answer = sums }
+  pub sum_prints : asked request ≡ totals letter → first_no (questions before request) ≡ None → step before request ≡ record { book = counted before; answer = sums }
   unfolding accept
   sum_prints e passed =
       let t = ((demand requests).totals letter).sums in
-      rw (step_is before request none passed, e, t.years, t.paid, t.losses)
+      rw (step_is before request None passed, e, t.years, t.paid, t.losses)
 
   -- "A line with no closed year prints zeros."
-  pub none_closed_prints_zeros : asked request ≡ totals letter → first_no (questions before request) ≡ none → closed_in (accepted empty requests) letter ≡ none → (step before request).answer ≡ summed letter 0 (pos 0) (pos 0)
+  pub none_closed_prints_zeros : asked request ≡ totals letter → first_no (questions before request) ≡ None → closed_in (accepted empty requests) letter ≡ None → (step before request).answer ≡ summed letter 0 (pos 0) (pos 0)
   unfolding accept
-  none_closed_prints_zeros e passed c = rw (step_is before request none passed, e, ((demand requests).totals letter).zeros c)
+  none_closed_prints_zeros e passed c = rw (step_is before request None passed, e, ((demand requests).totals letter).zeros c)
 
 -- document 01's run, and then SUM: two years closed with 50 and 40 paid, the last with 8
 pub sum_of_sample : text (step (after empty (records_of sample_input)) (as_bytes (bytes "SUM\tJ"))).answer ≡ bytes "SUM\tJ\t2\t90\t98\n"

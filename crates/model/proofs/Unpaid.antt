@@ -10,7 +10,8 @@ use native.Mathlib.Nat.{not-suc-le-zero, div-mul-le_self, lt_of_mul-lt-mul_right
 use borrow.Author.Tests.{leb-true, ltb-true}
 use lib.Dec.{leb, ltb}
 use lib.ListN.{length, take, drop, get_or, take-append-drop}
-use Rattle.model.specs.Basics.{all, last_or, sum}
+use Rattle.model.specs.Basics.{last_or, sum}
+use Rattle.std.specs.List.{list_all}
 use Rattle.model.specs.Letter.{ten_year}
 use Rattle.model.specs.Pattern.{Age, cumulative_ratio, cumulative, payments, whole}
 use Rattle.model.specs.Tail.{capped, tail_cap, ten_year_tail, two_year_tail, payment_at, schedule}
@@ -65,12 +66,12 @@ record Half (n : ℕ) : Type 0 where
   is : n ≡ 2 * half
   small : half ≤ 100000000
 
-last_half : (b : ℕ) (given : List Age) → b ≤ 100000000 → all is_incurred given ≡ true → Half (last_or (2 * b) (map cumulative given))
+last_half : (b : ℕ) (given : List Age) → b ≤ 100000000 → list_all is_incurred given ≡ true → Half (last_or (2 * b) (map cumulative given))
 last_half b [] le q = record { half = b; is = refl; small = le }
 last_half b (a ∷ given) le q =
-    last_half (cumulative_ratio a) given (ratio_small a (and_left (is_incurred a) (all is_incurred given) q)) (and_right (is_incurred a) (all is_incurred given) q)
+    last_half (cumulative_ratio a) given (ratio_small a (and_left (is_incurred a) (list_all is_incurred given) q)) (and_right (is_incurred a) (list_all is_incurred given) q)
 
-module _ (letter : ℕ) (given : List Age) (q11 : all is_incurred given ≡ true) (q12 : climbs_from 0 (map cumulative_ratio given) ≡ true) where
+module _ (letter : ℕ) (given : List Age) (q11 : list_all is_incurred given ≡ true) (q12 : climbs_from 0 (map cumulative_ratio given) ≡ true) where
   abbrev cumulatives : List ℕ
   cumulatives = map cumulative given
 

@@ -11,7 +11,8 @@ use borrow.Author.Tests.{leb-true, eqb-false, not-true}
 use lib.Dec.{eqb, leb}
 use lib.ListN.{length}
 use lib.IntN.{pos, nat_abs, neg_ℤ}
-use Rattle.model.specs.Basics.{same, all, bytes}
+use Rattle.model.specs.Basics.{same, bytes}
+use Rattle.std.specs.List.{list_all}
 use Rattle.model.specs.Letter.{ten_year, two_year, covered}
 use Rattle.model.specs.Field.{only_byte}
 use Rattle.model.specs.Number.{is_digit, onward, natural, is_plain, minus, is_written, integer}
@@ -61,10 +62,10 @@ onward_least : (a : ℕ) (digits : List ℕ) → a * 10 ^ length digits ≤ onwa
 onward_least a [] = omega arith
 onward_least a (b ∷ digits) = rw (pow-suc 10 (length digits)) (omega (arith, onward_least (a * 10 + (b - 48)) digits))
 
-first_digit : (b : ℕ) (digits : List ℕ) → not (eqb b 48) && all is_digit (b ∷ digits) ≡ true → 1 ≤ 0 * 10 + (b - 48)
+first_digit : (b : ℕ) (digits : List ℕ) → not (eqb b 48) && list_all is_digit (b ∷ digits) ≡ true → 1 ≤ 0 * 10 + (b - 48)
 first_digit b digits p =
-    let zero_not : b ≡ 48 → ⊥ = eqb-false b 48 (not-true (eqb b 48) (and_left (not (eqb b 48)) (all is_digit (b ∷ digits)) p)) in
-    let digit : is_digit b ≡ true = and_left (is_digit b) (all is_digit digits) (and_right (not (eqb b 48)) (all is_digit (b ∷ digits)) p) in
+    let zero_not : b ≡ 48 → ⊥ = eqb-false b 48 (not-true (eqb b 48) (and_left (not (eqb b 48)) (list_all is_digit (b ∷ digits)) p)) in
+    let digit : is_digit b ≡ true = and_left (is_digit b) (list_all is_digit digits) (and_right (not (eqb b 48)) (list_all is_digit (b ∷ digits)) p) in
     let least : 48 ≤ b = leb-true 48 b (and_left (leb 48 b) (leb b 57) digit) in
     by_contra 1 (0 * 10 + (b - 48)) (λ (z : 0 * 10 + (b - 48) < 1). absurd (zero_not (omega arith)))
 

@@ -9,7 +9,7 @@ use native.Mathlib.Omega.{arith}
 use borrow.Author.Tests.{leb-true, le-leb}
 use lib.Dec.{eqb, leb}
 use lib.ListN.{drop}
-use Rattle.model.specs.Basics.{all}
+use Rattle.std.specs.List.{list_all}
 use Rattle.model.specs.Kind.{is_year, is_register_year, is_month}
 use Rattle.model.proofs.Lists.{and_left, and_right}
 use Rattle.model.proofs.Months.{dates}
@@ -38,7 +38,7 @@ window year le =
     record { months = rw (fourth, third, second, first); ends = rw this; last = refl }
 
 -- each of them is a month that MIDT may give, so that a RATE of any year can be accepted
-pub window_can_be_given : (year : ℕ) → is_year year ≡ true → all (λ date. is_register_year date.0 && is_month date.1) (dates year) ≡ true
+pub window_can_be_given : (year : ℕ) → is_year year ≡ true → list_all (λ date. is_register_year date.0 && is_month date.1) (dates year) ≡ true
 window_can_be_given year y =
     let first : 1987 ≤ year = leb-true 1987 year (and_left (leb 1987 year) (leb year 2099) y) in
     let last : year ≤ 2099 = leb-true year 2099 (and_right (leb 1987 year) (leb year 2099) y) in

@@ -1,7 +1,6 @@
 -- The book: what document 01 has it hold.
 -- Assumes nothing: these are definitions.
-use Rattle.std.specs.Prelude.{List, [], ◌∷◌, ℕ, eqb, ℤ, pos, if◌then◌else◌}
-use Rattle.std.proofs.Math.Option.{Option, none, some}
+use Rattle.std.specs.Prelude.{List, [], ◌∷◌, ℕ, eqb, ℤ, pos, if◌then◌else◌, Option, None, Some}
 
 -- a kept pattern: its accident year, its kept factors from age 1 on, its composite
 pub record Kept : Type 0 where
@@ -44,19 +43,19 @@ no_totals = record { years = 0; paid = pos 0; losses = pos 0 }
 abbrev pub empty : Book
 empty =
     record {
-      rates = λ year. none;
-      register = λ year month. none;
-      lines = λ letter. record { opening = none; closed = none; kept = []; totals = no_totals };
+      rates = λ year. None;
+      register = λ year month. None;
+      lines = λ letter. record { opening = None; closed = None; kept = []; totals = no_totals };
       accepted = 0;
       refused = 0;
     }
 
 -- the last pattern
 abbrev pub latest : List Kept → Option Kept
-latest [] = none
-latest (p ∷ kept) = some p
+latest [] = None
+latest (p ∷ kept) = Some p
 
 -- the kept pattern of an accident year
 abbrev pub find : ℕ → List Kept → Option Kept
-find year [] = none
-find year (p ∷ kept) = if eqb year p.year then some p else find year kept
+find year [] = None
+find year (p ∷ kept) = if eqb year p.year then Some p else find year kept

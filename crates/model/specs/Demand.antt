@@ -1,8 +1,7 @@
 -- Demand 3 of document 01: "a single claim about the whole list, not one for each record"; and F-2's totals and F-4's register, over the same list.
 -- Throughout, h is the accepted records of the list, in order, and age k + 1 is at place k.
 -- Assumes nothing: these are definitions.
-use Rattle.std.specs.Prelude.{◌≡◌, List, [], ◌∷◌, map, reverse, ℕ, suc, ◌+◌, ◌-◌, ◌<◌, ltb, length, take, drop, get_or, pos, ◌+ℤ◌, ◌-ℤ◌, if◌then◌else◌}
-use Rattle.std.proofs.Math.Option.{none, some}
+use Rattle.std.specs.Prelude.{◌≡◌, List, [], ◌∷◌, map, reverse, ℕ, suc, ◌+◌, ◌-◌, ◌<◌, ltb, length, take, drop, get_or, pos, ◌+ℤ◌, ◌-ℤ◌, if◌then◌else◌, None, Some}
 use Rattle.model.specs.Basics.{sum, Every, EveryAt}
 use Rattle.model.specs.Letter.{ages}
 use Rattle.model.specs.Rate.{rate_of, sixty_months}
@@ -48,7 +47,7 @@ pub record KeptNear (h : List Entry) (letter : ℕ) (pattern : Kept) : Type 0 wh
 -- an accepted PATT: the line that it left keeps the pattern of its year as the last one
 pub record PatternHolds (h : List Entry) (line : Line) (letter year : ℕ) : Type 0 where
   pub pattern : Kept
-  pub keeps : latest line.kept ≡ some pattern
+  pub keeps : latest line.kept ≡ Some pattern
   pub of_year : pattern.year ≡ year
   pub near : KeptNear h letter pattern
 
@@ -72,7 +71,7 @@ pub record RowHolds (h : List Entry) (letter year k : ℕ) (row : Row) (d : ℕ)
 pub record YearHolds (h : List Entry) (line : Line) (answer : Answer) (letter year : ℕ) (rows : List Row) : Type 0 where
   -- "paid, unpaid, tabular for each age, prior row last": none is left out
   pub whole : length rows ≡ suc (ages letter)
-  pub answered : closed_from letter answer ≡ some (record { year = year; closing = sum (discounted_rows letter line year 0 rows) })
+  pub answered : closed_from letter answer ≡ Some (record { year = year; closing = sum (discounted_rows letter line year 0 rows) })
   pub each : EveryAt (λ k row. RowHolds h letter year k row (discounted_row letter line year k row)) 0 rows
 
 -- F-4, an accepted RATE with a year alone: h has one MIDT for each of its sixty months, and the rate that it answers is theirs
@@ -115,9 +114,9 @@ pub record Sums (h : List Entry) (letter : ℕ) (figures : Totals) : Type 0 wher
 -- the totals of a line
 pub record TotalsHold (h : List Entry) (letter : ℕ) (figures : Totals) : Type 0 where
   pub sums : Sums h letter figures
-  pub reconciles : (last : Closed) → closed_in h letter ≡ some last → Reconciles h letter last.closing figures
+  pub reconciles : (last : Closed) → closed_in h letter ≡ Some last → Reconciles h letter last.closing figures
   -- "A line with no closed year prints zeros."
-  pub zeros : closed_in h letter ≡ none → figures ≡ no_totals
+  pub zeros : closed_in h letter ≡ None → figures ≡ no_totals
 
 -- all of it, b being the book after the list
 pub record Holds (h : List Entry) (b : Book) : Type 0 where
@@ -128,7 +127,7 @@ pub record Holds (h : List Entry) (b : Book) : Type 0 where
   -- "A line keeps its latest ten patterns (two-year: two).": exactly those of its latest accepted PATTs
   pub kept : (letter : ℕ) → (b.lines letter).kept ≡ take (ages letter) (reverse (kept_in h letter))
   -- every line with a closed year
-  pub losses : (letter : ℕ) (last : Closed) → closed_in h letter ≡ some last → LossesAddUp h letter last.closing
+  pub losses : (letter : ℕ) (last : Closed) → closed_in h letter ≡ Some last → LossesAddUp h letter last.closing
   -- the closing that the book holds is the last one answered
   pub closed : (letter : ℕ) → (b.lines letter).closed ≡ closed_in h letter
   -- every rate that the book holds is that of its year's RATE

@@ -1,7 +1,6 @@
 -- Document 01, "The list of demand 3": the accepted records of a list, and the terms that come from them.
 -- Assumes nothing: these are definitions.
-use Rattle.std.specs.Prelude.{◌&&◌, List, [], ◌∷◌, ◌++◌, ℕ, eqb, ℤ, pos, if◌then◌else◌}
-use Rattle.std.proofs.Math.Option.{Option, none, some}
+use Rattle.std.specs.Prelude.{◌&&◌, List, [], ◌∷◌, ◌++◌, ℕ, eqb, ℤ, pos, if◌then◌else◌, Option, None, Some}
 use Rattle.model.specs.Basics.{total, joined}
 use Rattle.model.specs.Rate.{rate_of, sixty_months}
 use Rattle.model.specs.Pattern.{ages_of}
@@ -25,8 +24,8 @@ entry book request =
 
 -- a record's entry, if no question refuses it, before those of the later records
 abbrev pub enter : Option ℕ → Entry → List Entry → List Entry
-enter none e later = e ∷ later
-enter (some question) e later = later
+enter None e later = e ∷ later
+enter (Some question) e later = later
 
 -- the accepted records of the list, in order
 unfoldable pub accepted : Book → List Request → List Entry
@@ -36,80 +35,80 @@ accepted book (request ∷ requests) =
 
 -- all that f finds in the entries, in order; and the last
 abbrev pub listed : {A : Type 0} → Option A → List A
-listed none = []
-listed (some a) = a ∷ []
+listed None = []
+listed (Some a) = a ∷ []
 
 abbrev pub gather : {A : Type 0} → (Entry → Option A) → List Entry → List A
 gather f [] = []
 gather f (e ∷ entries) = listed (f e) ++ gather f entries
 
 abbrev pub or_else : {A : Type 0} → Option A → Option A → Option A
-or_else none other = other
-or_else (some a) other = some a
+or_else None other = other
+or_else (Some a) other = Some a
 
 abbrev pub last_of : {A : Type 0} → (Entry → Option A) → List Entry → Option A
-last_of f [] = none
+last_of f [] = None
 last_of f (e ∷ entries) = or_else (last_of f entries) (f e)
 
 -- the rate that a call gives for the year, where `taken` has the months that RATE with a year alone takes
 abbrev pub rate_from : (ℕ → List ℕ) → ℕ → Call → Option ℕ
-rate_from taken y (declare letter opening) = none
-rate_from taken y (set_rate year months) = if eqb y year then some (rate_of months) else none
-rate_from taken y (add_pattern letter year paid incurred) = none
-rate_from taken y (close_year letter year paid unpaid tabular) = none
-rate_from taken y (totals letter) = none
-rate_from taken y (register_month year month rate) = none
-rate_from taken y (set_rate_from_register year) = if eqb y year then some (rate_of (taken year)) else none
+rate_from taken y (declare letter opening) = None
+rate_from taken y (set_rate year months) = if eqb y year then Some (rate_of months) else None
+rate_from taken y (add_pattern letter year paid incurred) = None
+rate_from taken y (close_year letter year paid unpaid tabular) = None
+rate_from taken y (totals letter) = None
+rate_from taken y (register_month year month rate) = None
+rate_from taken y (set_rate_from_register year) = if eqb y year then Some (rate_of (taken year)) else None
 
 -- the rate that a call gives for the month of a year
 abbrev pub month_from : ℕ → ℕ → Call → Option ℕ
-month_from y m (declare letter opening) = none
-month_from y m (set_rate year months) = none
-month_from y m (add_pattern letter year paid incurred) = none
-month_from y m (close_year letter year paid unpaid tabular) = none
-month_from y m (totals letter) = none
-month_from y m (register_month year month rate) = if eqb y year && eqb m month then some rate else none
-month_from y m (set_rate_from_register year) = none
+month_from y m (declare letter opening) = None
+month_from y m (set_rate year months) = None
+month_from y m (add_pattern letter year paid incurred) = None
+month_from y m (close_year letter year paid unpaid tabular) = None
+month_from y m (totals letter) = None
+month_from y m (register_month year month rate) = if eqb y year && eqb m month then Some rate else None
+month_from y m (set_rate_from_register year) = None
 
 -- the payments by age that a call gives for the letter and the accident year
 abbrev pub payments_from : ℕ → ℕ → Call → Option (List ℕ)
-payments_from l y (declare letter opening) = none
-payments_from l y (set_rate year months) = none
-payments_from l y (add_pattern letter year paid incurred) = if eqb l letter && eqb y year then some (schedule letter (ages_of paid incurred)) else none
-payments_from l y (close_year letter year paid unpaid tabular) = none
-payments_from l y (totals letter) = none
-payments_from l y (register_month year month rate) = none
-payments_from l y (set_rate_from_register year) = none
+payments_from l y (declare letter opening) = None
+payments_from l y (set_rate year months) = None
+payments_from l y (add_pattern letter year paid incurred) = if eqb l letter && eqb y year then Some (schedule letter (ages_of paid incurred)) else None
+payments_from l y (close_year letter year paid unpaid tabular) = None
+payments_from l y (totals letter) = None
+payments_from l y (register_month year month rate) = None
+payments_from l y (set_rate_from_register year) = None
 
 -- the pattern that the book keeps last after a call that gives one for the letter
 abbrev pub kept_from : ℕ → Call → Book → Option Kept
-kept_from l (declare letter opening) later = none
-kept_from l (set_rate year months) later = none
-kept_from l (add_pattern letter year paid incurred) later = if eqb l letter then latest (later.lines letter).kept else none
-kept_from l (close_year letter year paid unpaid tabular) later = none
-kept_from l (totals letter) later = none
-kept_from l (register_month year month rate) later = none
-kept_from l (set_rate_from_register year) later = none
+kept_from l (declare letter opening) later = None
+kept_from l (set_rate year months) later = None
+kept_from l (add_pattern letter year paid incurred) later = if eqb l letter then latest (later.lines letter).kept else None
+kept_from l (close_year letter year paid unpaid tabular) later = None
+kept_from l (totals letter) later = None
+kept_from l (register_month year month rate) later = None
+kept_from l (set_rate_from_register year) later = None
 
 -- the opening that a call declares for the letter
 abbrev pub declared_from : ℕ → Call → Option ℕ
-declared_from l (declare letter opening) = if eqb l letter then some opening else none
-declared_from l (set_rate year months) = none
-declared_from l (add_pattern letter year paid incurred) = none
-declared_from l (close_year letter year paid unpaid tabular) = none
-declared_from l (totals letter) = none
-declared_from l (register_month year month rate) = none
-declared_from l (set_rate_from_register year) = none
+declared_from l (declare letter opening) = if eqb l letter then Some opening else None
+declared_from l (set_rate year months) = None
+declared_from l (add_pattern letter year paid incurred) = None
+declared_from l (close_year letter year paid unpaid tabular) = None
+declared_from l (totals letter) = None
+declared_from l (register_month year month rate) = None
+declared_from l (set_rate_from_register year) = None
 
 -- the year that a call closes for the letter
 abbrev pub year_from : ℕ → Call → Option ℕ
-year_from l (declare letter opening) = none
-year_from l (set_rate year months) = none
-year_from l (add_pattern letter year paid incurred) = none
-year_from l (close_year letter year paid unpaid tabular) = if eqb l letter then some year else none
-year_from l (totals letter) = none
-year_from l (register_month year month rate) = none
-year_from l (set_rate_from_register year) = none
+year_from l (declare letter opening) = None
+year_from l (set_rate year months) = None
+year_from l (add_pattern letter year paid incurred) = None
+year_from l (close_year letter year paid unpaid tabular) = if eqb l letter then Some year else None
+year_from l (totals letter) = None
+year_from l (register_month year month rate) = None
+year_from l (set_rate_from_register year) = None
 
 -- the sum of every paid that a call which closes a year of the letter lists, the prior row's too; 0 of any other
 abbrev pub paid_from : ℕ → Call → ℤ
@@ -141,13 +140,13 @@ loss_from l (registered year month rate) = pos 0
 loss_from l (refusal question) = pos 0
 
 abbrev pub closed_from : ℕ → Answer → Option Closed
-closed_from l (declared letter opening) = none
-closed_from l (rated year rate) = none
-closed_from l (fact letter year factors composite) = none
-closed_from l (tax letter year paid opening closing loss) = if eqb l letter then some (record { year = year; closing = closing }) else none
-closed_from l (summed letter years paid losses) = none
-closed_from l (registered year month rate) = none
-closed_from l (refusal question) = none
+closed_from l (declared letter opening) = None
+closed_from l (rated year rate) = None
+closed_from l (fact letter year factors composite) = None
+closed_from l (tax letter year paid opening closing loss) = if eqb l letter then Some (record { year = year; closing = closing }) else None
+closed_from l (summed letter years paid losses) = None
+closed_from l (registered year month rate) = None
+closed_from l (refusal question) = None
 
 -- F-4: the rates of all accepted MIDTs of the month of a year
 unfoldable pub months_in : List Entry → ℕ → ℕ → List ℕ

@@ -1,8 +1,7 @@
 -- Document 01, "Questions put to a record, in this order", and F-4's question 14. Each definition is a question, under its own words; the tables are below them.
 -- Assumes nothing: these are definitions.
-use Rattle.std.specs.Prelude.{Bool, true, false, not, ◌&&◌, ◌||◌, List, [], ◌∷◌, map, ◌≡◌, ℕ, suc, ◌-◌, eqb, leb, ltb, length, take, drop, if◌then◌else◌}
-use Rattle.std.proofs.Math.Option.{Option, none, some}
-use Rattle.model.specs.Basics.{given, all}
+use Rattle.std.specs.Prelude.{Bool, true, false, not, ◌&&◌, ◌||◌, List, [], ◌∷◌, map, ◌≡◌, ℕ, suc, ◌-◌, eqb, leb, ltb, length, take, drop, if◌then◌else◌, Option, None, Some, is_some}
+use Rattle.std.specs.List.{list_all}
 use Rattle.model.specs.Kind.{is_rate, is_year, is_register_year, is_month, is_opening, is_amount, is_paid}
 use Rattle.model.specs.Letter.{covered, ages}
 use Rattle.model.specs.Rate.{sixty_months}
@@ -64,22 +63,22 @@ is_well_written word fs = all_written word (first_number word) (drop (first_numb
 -- "6. Is every number within its limits?"
 abbrev pub is_within_limits : Call → Bool
 is_within_limits (declare letter opening) = is_opening opening
-is_within_limits (set_rate year months) = is_year year && all is_rate months
-is_within_limits (add_pattern letter year paid incurred) = is_year year && all is_amount paid && all is_amount incurred
-is_within_limits (close_year letter year paid unpaid tabular) = is_year year && all is_paid paid && all is_amount unpaid && all is_amount tabular
+is_within_limits (set_rate year months) = is_year year && list_all is_rate months
+is_within_limits (add_pattern letter year paid incurred) = is_year year && list_all is_amount paid && list_all is_amount incurred
+is_within_limits (close_year letter year paid unpaid tabular) = is_year year && list_all is_paid paid && list_all is_amount unpaid && list_all is_amount tabular
 is_within_limits (totals letter) = true
 is_within_limits (register_month year month rate) = is_register_year year && is_month month && is_rate rate
 is_within_limits (set_rate_from_register year) = is_year year
 
 -- "7. LINE, RATE: is that line or that year's rate still to be given?": F-4, "Question 7 also covers a month given twice."
 abbrev pub is_to_be_given : Book → Call → Bool
-is_to_be_given book (declare letter opening) = not (given (book.lines letter).opening)
-is_to_be_given book (set_rate year months) = not (given (book.rates year))
+is_to_be_given book (declare letter opening) = not (is_some (book.lines letter).opening)
+is_to_be_given book (set_rate year months) = not (is_some (book.rates year))
 is_to_be_given book (add_pattern letter year paid incurred) = true
 is_to_be_given book (close_year letter year paid unpaid tabular) = true
 is_to_be_given book (totals letter) = true
-is_to_be_given book (register_month year month rate) = not (given (book.register year month))
-is_to_be_given book (set_rate_from_register year) = not (given (book.rates year))
+is_to_be_given book (register_month year month rate) = not (is_some (book.register year month))
+is_to_be_given book (set_rate_from_register year) = not (is_some (book.rates year))
 
 -- F-4: "14 after question 7, when the short RATE lacks any of its sixty months": has it them all?
 abbrev pub has_months : Book → Call → Bool
@@ -89,15 +88,15 @@ has_months book (add_pattern letter year paid incurred) = true
 has_months book (close_year letter year paid unpaid tabular) = true
 has_months book (totals letter) = true
 has_months book (register_month year month rate) = true
-has_months book (set_rate_from_register year) = all given (sixty_months book.register year)
+has_months book (set_rate_from_register year) = list_all is_some (sixty_months book.register year)
 
 -- "8. PATT, YEAR: is the line declared?": F-2, "SUM has two fields and meets questions 1 to 4 and 8."
 abbrev pub is_declared : Book → Call → Bool
 is_declared book (declare letter opening) = true
 is_declared book (set_rate year months) = true
-is_declared book (add_pattern letter year paid incurred) = given (book.lines letter).opening
-is_declared book (close_year letter year paid unpaid tabular) = given (book.lines letter).opening
-is_declared book (totals letter) = given (book.lines letter).opening
+is_declared book (add_pattern letter year paid incurred) = is_some (book.lines letter).opening
+is_declared book (close_year letter year paid unpaid tabular) = is_some (book.lines letter).opening
+is_declared book (totals letter) = is_some (book.lines letter).opening
 is_declared book (register_month year month rate) = true
 is_declared book (set_rate_from_register year) = true
 
@@ -105,7 +104,7 @@ is_declared book (set_rate_from_register year) = true
 abbrev pub has_rate : Book → Call → Bool
 has_rate book (declare letter opening) = true
 has_rate book (set_rate year months) = true
-has_rate book (add_pattern letter year paid incurred) = given (book.rates year)
+has_rate book (add_pattern letter year paid incurred) = is_some (book.rates year)
 has_rate book (close_year letter year paid unpaid tabular) = true
 has_rate book (totals letter) = true
 has_rate book (register_month year month rate) = true
@@ -113,21 +112,21 @@ has_rate book (set_rate_from_register year) = true
 
 -- "10. PATT: is it the line's first pattern, or the year after its last one, that last one closed if any year is closed?"
 abbrev pub last_is_closed : Option Closed → ℕ → Bool
-last_is_closed none last = true
-last_is_closed (some c) last = eqb c.year last
+last_is_closed None last = true
+last_is_closed (Some c) last = eqb c.year last
 
 abbrev pub follows : Option Kept → Option Closed → ℕ → Bool
-follows none closed year = true
-follows (some p) closed year = eqb year (suc p.year) && last_is_closed closed p.year
+follows None closed year = true
+follows (Some p) closed year = eqb year (suc p.year) && last_is_closed closed p.year
 
 -- "YEAR: is it the year of the last pattern, not yet closed?"
 abbrev pub is_year_of : Option Kept → ℕ → Bool
-is_year_of none year = false
-is_year_of (some p) year = eqb year p.year
+is_year_of None year = false
+is_year_of (Some p) year = eqb year p.year
 
 abbrev pub is_open : Option Closed → ℕ → Bool
-is_open none year = true
-is_open (some c) year = not (eqb c.year year)
+is_open None year = true
+is_open (Some c) year = not (eqb c.year year)
 
 abbrev pub is_in_turn : Book → Call → Bool
 is_in_turn book (declare letter opening) = true
@@ -147,7 +146,7 @@ is_incurred age = ltb 0 age.incurred && leb age.paid age.incurred
 abbrev pub has_incurred : Call → Bool
 has_incurred (declare letter opening) = true
 has_incurred (set_rate year months) = true
-has_incurred (add_pattern letter year paid incurred) = all is_incurred (ages_of paid incurred)
+has_incurred (add_pattern letter year paid incurred) = list_all is_incurred (ages_of paid incurred)
 has_incurred (close_year letter year paid unpaid tabular) = true
 has_incurred (totals letter) = true
 has_incurred (register_month year month rate) = true
@@ -170,7 +169,7 @@ climbs (set_rate_from_register year) = true
 -- "13. YEAR: has every age row with gross above 0 a kept pattern?": the rows from place k on
 abbrev pub have_kept : List Kept → ℕ → ℕ → List Row → Bool
 have_kept kept year k [] = true
-have_kept kept year k (row ∷ rows) = (eqb (gross row) 0 || given (find (year - k) kept)) && have_kept kept year (suc k) rows
+have_kept kept year k (row ∷ rows) = (eqb (gross row) 0 || is_some (find (year - k) kept)) && have_kept kept year (suc k) rows
 
 abbrev pub has_patterns : Book → Call → Bool
 has_patterns book (declare letter opening) = true
@@ -221,5 +220,5 @@ book_questions book call =
 
 -- the number of the first question whose answer is no
 abbrev pub first_no : List (ℕ × Bool) → Option ℕ
-first_no [] = none
-first_no (q ∷ questions) = if q.1 then first_no questions else some q.0
+first_no [] = None
+first_no (q ∷ questions) = if q.1 then first_no questions else Some q.0

@@ -1,8 +1,7 @@
 -- What a record does to the book, and what it is answered.
 -- Assumes nothing: these are definitions.
-use Rattle.std.specs.Prelude.{Bool, List, [], ◌∷◌, ◌++◌, map, ℕ, ◌+◌, min, take, ℤ, ◌+ℤ◌}
-use Rattle.std.proofs.Math.Option.{Option, none, some}
-use Rattle.model.specs.Basics.{or_default, put}
+use Rattle.std.specs.Prelude.{Bool, List, [], ◌∷◌, ◌++◌, map, ℕ, ◌+◌, min, take, ℤ, ◌+ℤ◌, Option, None, Some, unwrap_or}
+use Rattle.model.specs.Basics.{put}
 use Rattle.model.specs.Letter.{ages}
 use Rattle.model.specs.Rate.{rate_of, sixty_months}
 use Rattle.model.specs.Pattern.{ages_of}
@@ -63,16 +62,16 @@ with_line book letter line =
 
 abbrev pub with_rate : Book → ℕ → ℕ → Book
 with_rate book year rate =
-    record { rates = put book.rates year (some rate); register = book.register; lines = book.lines; accepted = one_more book.accepted; refused = book.refused }
+    record { rates = put book.rates year (Some rate); register = book.register; lines = book.lines; accepted = one_more book.accepted; refused = book.refused }
 
 -- F-4: MIDT "stores one federal mid-term rate, once"
 abbrev pub with_month : Book → ℕ → ℕ → ℕ → Book
 with_month book year month rate =
-    record { rates = book.rates; register = put book.register year (put (book.register year) month (some rate)); lines = book.lines; accepted = one_more book.accepted; refused = book.refused }
+    record { rates = book.rates; register = put book.register year (put (book.register year) month (Some rate)); lines = book.lines; accepted = one_more book.accepted; refused = book.refused }
 
 -- F-4: the sixty rates that RATE with a year alone "takes" from the register (question 14 asks that each is given)
 abbrev pub months_taken : Book → ℕ → List ℕ
-months_taken book year = map (λ month. or_default month 0) (sixty_months book.register year)
+months_taken book year = map (λ month. unwrap_or month 0) (sixty_months book.register year)
 
 -- the book that SUM leaves (F-2): only the accepted count is another
 abbrev pub counted : Book → Book
@@ -80,7 +79,7 @@ counted book = record { rates = book.rates; register = book.register; lines = bo
 
 -- the line that LINE declares
 abbrev pub declared_line : ℕ → Line
-declared_line amount = record { opening = some amount; closed = none; kept = []; totals = no_totals }
+declared_line amount = record { opening = Some amount; closed = None; kept = []; totals = no_totals }
 
 -- the pattern that PATT has kept
 abbrev pub kept_pattern : ℕ → ℕ → ℕ → List ℕ → Kept
@@ -97,7 +96,7 @@ with_year before paid loss = record { years = before.years + 1; paid = before.pa
 -- the line with one more year closed
 abbrev pub with_closing : Line → ℕ → ℕ → Totals → Line
 with_closing line year amount figures =
-    record { opening = line.opening; closed = some (record { year = year; closing = amount }); kept = line.kept; totals = figures }
+    record { opening = line.opening; closed = Some (record { year = year; closing = amount }); kept = line.kept; totals = figures }
 
 unfoldable pub accept : Book → Call → Outcome
 accept book (declare letter amount) = record { book = with_line book letter (declared_line amount); answer = declared letter amount }
@@ -105,7 +104,7 @@ accept book (set_rate year months) =
     let rate = rate_of months in
     record { book = with_rate book year rate; answer = rated year rate }
 accept book (add_pattern letter year paid incurred) =
-    let pattern = kept_pattern letter year (or_default (book.rates year) 0) (schedule letter (ages_of paid incurred)) in
+    let pattern = kept_pattern letter year (unwrap_or (book.rates year) 0) (schedule letter (ages_of paid incurred)) in
     record {
       book = with_line book letter (with_pattern letter (book.lines letter) pattern);
       answer = fact letter year (map published pattern.factors) (published pattern.composite);
@@ -130,8 +129,8 @@ accept book (set_rate_from_register year) =
 
 -- "A "no" refuses with that question's number."
 abbrev pub settle : Option ℕ → Book → Call → Outcome
-settle none book call = accept book call
-settle (some question) book call = refuse book question
+settle None book call = accept book call
+settle (Some question) book call = refuse book question
 
 unfoldable pub step : Book → Request → Outcome
 step book request = settle (first_no (questions book request)) book (asked request)

@@ -1,4 +1,4 @@
--- A signed number by its size: what the code's signed comparisons with -limit and limit say of it, how sums grow, and when it fits.
+-- A signed number by its size: how sums grow, and when it fits.
 -- Assumes nothing.
 use mathlib.Core.Bool.{Bool, true, false, cond}
 use mathlib.Core.Path.{◌≡◌, refl}
@@ -11,30 +11,6 @@ use lib.Signed.{lt_z, le_z}
 use mir.Syntax.{w64}
 use mir.Val.{SFits, to_z, of_z}
 use mir.Facts.{to_z-of_z}
-
--- the limit is suc k, and negsuc k its negative
-pub below : (v : ℤ) (k : ℕ) → lt_z v (negsuc k) ≡ true → leb (nat_abs v) (suc k) ≡ false
-below (pos n) k e = cc
-below (negsuc n) k e = lt-leb (suc n) (suc k) (omega (arith, ltb-true k n e))
-
-pub within : (v : ℤ) (k : ℕ) → lt_z v (negsuc k) ≡ false → le_z v (pos (suc k)) ≡ true → leb (nat_abs v) (suc k) ≡ true
-within (pos n) k e f = f
-within (negsuc n) k e f = le-leb (suc n) (suc k) (omega (arith, ltb-false k n e))
-
-pub above : (v : ℤ) (k : ℕ) → le_z v (pos k) ≡ false → leb (nat_abs v) k ≡ false
-above (pos n) k e = e
-above (negsuc n) k e = cc
-
--- a number that is read from its bits
-module _ (v : ℤ) (fits : SFits w64 v) (k : ℕ) where
-  pub read_below : lt_z (to_z w64 (of_z w64 v)) (negsuc k) ≡ true → leb (nat_abs v) (suc k) ≡ false
-  read_below e = below v k (rw (to_z-of_z fits) at e)
-
-  pub read_within : lt_z (to_z w64 (of_z w64 v)) (negsuc k) ≡ false → le_z (to_z w64 (of_z w64 v)) (pos (suc k)) ≡ true → leb (nat_abs v) (suc k) ≡ true
-  read_within e f = within v k (rw (to_z-of_z fits) at e) (rw (to_z-of_z fits) at f)
-
-  pub read_above : le_z (to_z w64 (of_z w64 v)) (pos k) ≡ false → leb (nat_abs v) k ≡ false
-  read_above e = above v k (rw (to_z-of_z fits) at e)
 
 -- sums and differences by their sizes
 difference_size : (a b : ℕ) (t : Bool) → ltb a b ≡ t → nat_abs (cond t (negsuc (b - suc a)) (pos (a - b))) ≤ a + b

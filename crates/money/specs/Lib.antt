@@ -1,4 +1,2 @@
-pub mod Amount
 pub mod Closing
-pub mod Opening
 pub mod Paid

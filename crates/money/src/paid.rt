@@ -1,18 +1,24 @@
 // "and paid in YEAR also down to -10,000,000,000.": what was paid in a year.
-ghost use Rattle.std.specs.Prelude.{◌≡◌};
-ghost use Rattle.model.specs.Basics.{all};
+ghost use Rattle.std.specs.Prelude.{◌≡◌, ℤ, true};
+ghost use Rattle.std.specs.List.{list_all};
 ghost use Rattle.model.specs.Kind.{is_paid};
-ghost use Rattle.money.specs.Paid.{maybe_paid};
+ghost use Rattle.money.specs.Paid.{paid};
+
+use std::marker::Model;
 
 #[derive(Clone, Copy)]
 pub struct Paid {
     value: i64,
 }
 
-#[derive(Clone, Copy)]
-pub enum MaybePaid {
-    Within(Paid),
-    Outside,
+impl Model for Paid {
+    ghost Value = { ℤ };
+
+    ghost view = { λ p. p.value };
+
+    ghost invariant = { λ p. is_paid p.value ≡ true };
+
+    ghost inverse = { λ v. record { value = v } };
 }
 
 impl Paid {
@@ -20,42 +26,28 @@ impl Paid {
 
     pub const MOST: i64 = 10000000000;
 
-    // The paid that v is, or that it is none.
-    pub fn new(v: i64) -> MaybePaid
-        ensures { result ≡ maybe_paid v }
+    // The paid that v is; none where it is outside the limits.
+    pub fn new(v: i64) -> Option<Paid>
+        ensures { result ≡ paid v }
     {
-        if v < Paid::LEAST {
-            return MaybePaid::Outside;
-        }
-        if v <= Paid::MOST {
-            MaybePaid::Within(Paid { value: v })
+        if Paid::LEAST <= v && v <= Paid::MOST {
+            Some(Paid { value: v })
         } else {
-            MaybePaid::Outside
+            None
         }
+    }
+
+    // Is v a paid?
+    pub fn contains(v: i64) -> bool
+        ensures { result ≡ is_paid v }
+    {
+        Paid::new(v).is_some()
     }
 
     // Is every number of the list a paid?
     pub fn all(list: &[i64]) -> bool
-        ensures { result ≡ all is_paid list.now }
+        ensures { result ≡ list_all is_paid list.now }
     {
-        let mut i = 0;
-        while i < list.len() {
-            if is_paid(list[i]) {
-                i += 1;
-            } else {
-                return false;
-            }
-        }
-        true
-    }
-}
-
-// "and paid in YEAR also down to -10,000,000,000."
-fn is_paid(v: i64) -> bool
-    ensures { result ≡ is_paid v }
-{
-    match Paid::new(v) {
-        MaybePaid::Within(_) => true,
-        MaybePaid::Outside => false,
+        list.iter().all(|&v| Paid::contains(v))
     }
 }

@@ -1,4 +1,2 @@
 pub mod Digits
-pub mod FrontDigits
-pub mod Places
 pub mod Signs

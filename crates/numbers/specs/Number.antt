@@ -1,9 +1,9 @@
 -- A number as it is read from the front of the rest of a line: its sign, its size, which stops above every limit, and its length.
 -- Assumes nothing: these are definitions.
-use Rattle.std.specs.Prelude.{◌≡◌, ℕ, ◌+◌, ◌≤◌, min, Bool, true, false, List, [], ◌∷◌, length, drop, ◌==◌, slice_index, if◌then◌else◌}
+use Rattle.std.specs.Prelude.{◌≡◌, ℕ, ◌+◌, ◌≤◌, min, Bool, true, List, [], ◌∷◌, length, drop, ◌==◌, slice_index, if◌then◌else◌, Option, None, Some}
 use Rattle.model.specs.Number.{is_digit, onward, natural, minus, is_written}
-use Rattle.numbers.specs.declared.number.Digits.{Digits}
-use Rattle.numbers.specs.declared.number.Reading.{Reading}
+use Rattle.numbers.specs.declared.front.Digits.{Digits}
+use Rattle.numbers.specs.declared.number.Number.{Number}
 
 -- above every limit
 abbrev pub most : ℕ
@@ -42,15 +42,12 @@ pub record Found (rest : List ℕ) (d : Digits) : Type 0 where
   pub long : d.length ≡ length (leading rest)
   pub value : d.size ≡ capped (leading rest)
 
--- a field that is not well written
-abbrev pub no_number : Reading
-no_number = record { right = false; minus = false; size = 0; length = 0 }
+-- and a tab or the end is after them
+pub record Ended (rest : List ℕ) (d : Digits) : Type 0 where
+  pub found : Found rest d
+  pub ended : is_end (drop d.length rest) ≡ true
 
 -- "A number is digits without leading zeros ("0" alone is right); a minus sign is allowed only before a nonzero paid in YEAR.":
--- whether the field is that, where minusAllowed says whether a minus sign is allowed; and if so its sign, size and length, if not zeros
-pub record Reads (minus_allowed : Bool) (f : List ℕ) (r : Reading) : Type 0 where
-  pub written : r.right ≡ is_written minus_allowed f
-  pub sign : r.right ≡ true → r.minus ≡ has_minus f
-  pub value : r.right ≡ true → r.size ≡ capped f
-  pub long : r.right ≡ true → r.length ≡ length f
-  pub none : r.right ≡ false → r ≡ no_number
+-- the number that a field is, where minusAllowed says whether a minus sign is allowed: its sign, size and length; none where it is not well written
+abbrev pub number_in : Bool → List ℕ → Option Number
+number_in minus_allowed f = if is_written minus_allowed f then Some (record { minus = has_minus f; size = capped f; length = length f }) else None

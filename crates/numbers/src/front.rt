@@ -1,74 +1,72 @@
-// The digits among the first twelve bytes of the rest of a line, read without asking at each byte whether the line goes on.
-ghost use Rattle.std.specs.Prelude.{◌≡◌, ◌+◌, ◌≤◌, ◌&&◌, length, ◌==◌, nat_le};
-ghost use Rattle.model.specs.Field.{fields, field};
-ghost use Rattle.model.specs.Number.{is_plain};
-ghost use Rattle.numbers.specs.Front.{tab, Stopped, FrontDigits};
+// The digits at the front of the rest of a line: their number, and how many they are.
+ghost use Rattle.std.specs.Prelude.{◌≡◌, ◌+◌, ◌*◌, ◌%◌, ◌≤◌, IfSome, min};
+ghost use Rattle.numbers.specs.Number.{most, Found, Ended};
 
-use std::num::wrapping_sub_u8;
+// Above every limit: what a longer number is read as.
+const MOST: u64 = 1000000000000;
 
-// How many bytes are looked at. So many digits stay below `number::MOST`.
+// So many digits stay below MOST.
 const FRONT: usize = 12;
 
-// A tab less b'0', modulo 256.
+// What a tab is above b'0', modulo 256.
 const TAB: u8 = 217;
 
-// The digits among these bytes: their number, how many they are, and the byte after them less b'0', modulo 256; 0 where all are digits.
 #[derive(Clone, Copy)]
-pub struct Front {
+pub struct Digits {
     pub size: u64,
     pub length: usize,
-    pub stop: u8,
 }
 
-// Has the line twelve bytes or more from a place on?
-pub fn is_far_from_end(line: &[u8], at: usize) -> bool
-    ensures { result ≡ nat_le (at + 12) (length line.now) }
+// How far a byte is above b'0', modulo 256: a digit where that is at most 9.
+fn above_zero(byte: u8) -> u8
+    ensures { (result + 48) % 256 ≡ byte }
 {
-    if line.len() < FRONT {
-        return false;
-    }
-    at <= line.len() - FRONT
+    byte.wrapping_sub(b'0')
 }
 
-// The digits among the first twelve bytes.
-pub fn front_digits(rest: &[u8]) -> Front
-    requires { 12 ≤ length rest.now }
-    ensures { FrontDigits rest.now result }
+// One digit more.
+fn longer(n: u64, digit: u8) -> u64
+    requires { (n ≤ most) × (digit ≤ 9) }
+    ensures { result ≡ min (n * 10 + digit) most }
 {
-    let mut size: u64 = 0;
-    let mut i = 0;
-    while i < FRONT {
-        let digit = wrapping_sub_u8(rest[i], b'0');
+    (n * 10 + u64::from(digit)).min(MOST)
+}
+
+// The digits at the front: their number, or MOST.
+pub fn leading_digits(rest: &[u8]) -> Digits
+    ensures { Found rest.now result }
+{
+    let mut size = 0;
+    for i in 0..rest.len() {
+        let digit = above_zero(rest[i]);
         if digit > 9 {
-            return Front {
-                size,
-                length: i,
-                stop: digit,
-            };
+            return Digits { size, length: i };
         }
-        size = size * 10 + digit as u64;
-        i += 1;
+        size = longer(size, digit);
     }
-    Front {
+    Digits {
         size,
-        length: i,
-        stop: 0,
+        length: rest.len(),
     }
 }
 
-// "digits without leading zeros ("0" alone is right)": is the field at the front that, with so many digits and a tab after them?
-pub fn ends_at_tab(rest: &[u8], count: usize, stop: u8) -> bool
-    requires { Stopped rest.now count stop }
-    ensures { result ≡ (stop == tab && is_plain (field 0 (fields rest.now))) }
+// The same, if a tab ends them within the first twelve bytes. It is not asked at each byte whether the line goes on, and only what a byte is above b'0' is looked at.
+pub fn digits_to_tab(rest: &[u8]) -> Option<Digits>
+    ensures { IfSome result (λ digits. Ended rest.now digits) }
 {
-    if stop != TAB {
-        return false;
+    if rest.len() < FRONT {
+        return None;
     }
-    if count == 0 {
-        return false;
+    let mut size: u64 = 0;
+    for i in 0..FRONT {
+        let digit = above_zero(rest[i]);
+        if digit > 9 {
+            if digit == TAB {
+                return Some(Digits { size, length: i });
+            }
+            return None;
+        }
+        size = size * 10 + u64::from(digit);
     }
-    if count == 1 {
-        return true;
-    }
-    rest[0] != b'0'
+    None
 }

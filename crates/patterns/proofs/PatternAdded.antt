@@ -1,14 +1,14 @@
 -- PATT: what an accepted one leaves.
 -- Assumes nothing.
+use Rattle.std.specs.Prelude.{Some, Result, Ok}
 use mathlib.Core.Bool.{Bool, true, ◌&&◌}
 use mathlib.Core.List.{List, [], ◌∷◌, ◌++◌, map}
-use mathlib.Core.Path.{◌≡◌, refl, ap, ◌∙◌}
-use Prim.Native.Nat.{ℕ, ◌+◌, ◌≤◌, ◌<◌}
-use native.Mathlib.Omega.{arith}
+use mathlib.Core.Path.{◌≡◌, refl, ap}
+use Prim.Native.Nat.{ℕ, ◌+◌}
 use borrow.Author.Tests.{eqb-true}
 use lib.Dec.{eqb}
 use lib.ListN.{length}
-use Rattle.model.specs.Basics.{all}
+use Rattle.std.specs.List.{list_all}
 use Rattle.model.specs.Kind.{is_year, is_amount}
 use Rattle.model.specs.Letter.{ages}
 use Rattle.model.specs.Pattern.{ages_of}
@@ -21,11 +21,12 @@ use Rattle.model.specs.Call.{add_pattern}
 use Rattle.model.specs.Step.{kept_pattern, with_pattern, with_line, accept}
 use Rattle.model.proofs.Lists.{and_left, and_right}
 use Rattle.model.proofs.Ages.{length_ages_of, schedule_sized, kept_count}
-use Rattle.refusal.specs.declared.Verdict.TheVariants.{Fine}
+use Rattle.refusal.specs.declared.Refusal.{Refusal}
 use Rattle.factor.specs.declared.pattern.Pattern.{Pattern}
 use Rattle.factor.specs.Pattern.{pattern_of}
 use Rattle.state.specs.declared.book.Book.{Book}
 use Rattle.line_limits.specs.declared.line.Line.{Line}
+use Rattle.line_limits.specs.declared.line.Patterns.{Patterns}
 use Rattle.state.specs.Store.{size}
 use Rattle.state.specs.Lines.{Limited, with_line_of, with_pattern_of}
 use Rattle.state.specs.Patterns.{slot_of, with_slot_of}
@@ -41,23 +42,6 @@ use Rattle.state.proofs.Views.{line_is}
 use Rattle.patterns.proofs.Turns.{next_year}
 use Rattle.patterns.proofs.PatternAsked.{passes}
 
--- the line, as code makes it: n is how many patterns it keeps at most
-module _ (letter year : ℕ) (line : Line) (n : ℕ) (en : n ≡ ages letter) where
-  abbrev keeping : ℕ → Line
-  keeping kept = record { declared = line.declared; opening = line.opening; closed = line.closed; closing = line.closing; last = year; kept = kept }
-
-  pub one_kept_more : line.kept < n → keeping (line.kept + 1) ≡ with_pattern_of letter line year
-  one_kept_more lt = ap keeping (omega (arith, en))
-
-  pub most_kept : n ≤ line.kept → keeping n ≡ with_pattern_of letter line year
-  most_kept le = ap keeping (omega (arith, en))
-
--- the slot written, and then the line
-pub both_kept : (store cells middle later : List ℕ) (letter year : ℕ) (line new : Line) → middle ≡ with_slot_of store letter year cells → new ≡ with_pattern_of letter line year → later ≡ with_line_of middle letter new
-    → later ≡ with_line_of (with_slot_of store letter year cells) letter (with_pattern_of letter line year)
-both_kept store cells middle later letter year line new em en el =
-    el ∙ ap (λ (kept : Line). with_line_of middle letter kept) en ∙ ap (λ (slots : List ℕ). with_line_of slots letter (with_pattern_of letter line year)) em
-
 module _ (book : Book) (store : List ℕ) (line : Line) (letter year rate : ℕ) (paid incurred : List ℕ) (pre : Turned book store line letter year rate paid incurred) where
   abbrev pay : List ℕ
   pay = schedule letter (ages_of paid incurred)
@@ -69,18 +53,18 @@ module _ (book : Book) (store : List ℕ) (line : Line) (letter year rate : ℕ)
       kept_count letter rate pay (schedule_sized letter (ages_of paid incurred) (length_ages_of (ages letter) paid incurred (eqb-true _ _ (and_left n m pre.sound.lengths)) (eqb-true _ _ (and_right n m pre.sound.lengths))))
 
   is_year_lem : is_year year ≡ true
-  is_year_lem = and_left (is_year year) (all is_amount paid) (and_left (is_year year && all is_amount paid) (all is_amount incurred) pre.sound.limits)
+  is_year_lem = and_left (is_year year) (list_all is_amount paid) (and_left (is_year year && list_all is_amount paid) (list_all is_amount incurred) pre.sound.limits)
 
-  shown : length store ≡ size → Limited letter line → (0 < line.kept → year ≡ line.last + 1)
+  shown : length store ≡ size → Limited letter line → ((p : Patterns) → line.patterns ≡ Some p → year ≡ p.last + 1)
       → view (one_more_accepted book) (with_line_of (with_slot_of store letter year (slot_of letter (kept_pattern letter year rate pay))) letter (with_pattern_of letter line year)) ≡ with_line (view book store) letter (with_pattern letter (lines_of store letter) (kept_pattern letter year rate pay))
   shown n l next = rw (pattern_register store letter year rate pay pre.sound.letter n count line l is_year_lem next, pattern_put store letter year rate pay pre.sound.letter n count line l is_year_lem next, line_is store letter line pre.here)
 
-  pub pattern_added : (pattern : Pattern) → pattern ≡ pattern_of letter rate paid incurred → pattern.verdict ≡ Fine → length store ≡ size → (r : Outcome) → r ≡ accepted_of book (answer.Fact letter year)
+  pub pattern_added : (answered : Result Pattern Refusal) → answered ≡ pattern_of letter rate paid incurred → (pattern : Pattern) → answered ≡ Ok pattern → length store ≡ size → (r : Outcome) → r ≡ accepted_of book (answer.Fact letter year)
       → (later : List ℕ) → later ≡ with_line_of (with_slot_of store letter year (pattern.factors ++ (pattern.composite ∷ []))) letter (with_pattern_of letter line year)
       → Settled book (add_pattern letter year paid incurred) store r later
   unfolding accept book_settled store_settled
-  pattern_added pattern ep fine n r er later el =
-      let p = passes book store line letter year rate paid incurred pre pattern ep fine in
+  pattern_added answered ep pattern fine n r er later el =
+      let p = passes book store line letter year rate paid incurred pre answered ep pattern fine in
       let c = pre.sound.letter in
       let l = line_limited store letter line pre.here in
       let next = next_year line year pre.turn in

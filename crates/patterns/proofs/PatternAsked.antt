@@ -1,44 +1,37 @@
 -- PATT: its questions, and what an accepted one leaves.
 -- Assumes nothing.
-use Rattle.std.specs.Prelude.{if◌then◌else◌}
+use Rattle.std.specs.Prelude.{if◌then◌else◌, Option, None, Some, is_some, Result, Ok, Err}
 use mathlib.Core.Bool.{Bool, true, false, ◌&&◌}
 use mathlib.Core.List.{List, [], ◌∷◌}
 use mathlib.Core.Path.{◌≡◌, refl, sym, ap, ◌∙◌}
-use mathlib.Core.Option.{Option, none, some}
-use Prim.Native.Nat.{ℕ, ◌<◌}
+use Prim.Native.Nat.{ℕ}
 use native.Mathlib.Omega.{arith}
-use Rattle.model.specs.Basics.{given, all}
+use Rattle.std.specs.List.{list_all}
 use Rattle.model.specs.Kind.{is_year, is_amount}
 use Rattle.model.specs.Letter.{covered}
-use Rattle.model.specs.Pattern.{Age, ages_of}
+use Rattle.model.specs.Pattern.{ages_of}
 use Rattle.model.specs.Tail.{schedule}
 use Rattle.model.specs.Call.{Call, add_pattern}
 use Rattle.model.specs.Question.{Sound, has_lengths, is_within_limits, has_incurred, climbs, book_questions, first_no}
 use Rattle.model.specs.Step.{as_numbers}
-use Rattle.kinds.specs.declared.rate.Rate.{Rate}
-use Rattle.kinds.specs.Rate.{rate_number}
-use Rattle.refusal.specs.declared.Verdict.TheVariants as verdict
+use Rattle.refusal.specs.Unless.{unless}
 use Rattle.factor.specs.declared.pattern.Pattern.{Pattern}
-use Rattle.payments.specs.Schedule.{schedule_by}
-use Rattle.factor.specs.Pattern.{kept_of, pattern_by, pattern_of}
+use Rattle.factor.specs.Pattern.{kept_of, pattern_of}
 use Rattle.state.specs.declared.book.Book.{Book}
 use Rattle.line_limits.specs.declared.line.Line.{Line}
 use Rattle.refusal.specs.declared.Refusal.{Refusal}
 use Rattle.refusal.specs.declared.Refusal.TheVariants as refusal
 use Rattle.ledger.specs.declared.answer.Outcome.{Outcome}
-use Rattle.year_rates.specs.declared.rates.YearRate.{YearRate}
-use Rattle.year_rates.specs.declared.rates.YearRate.TheVariants as year_rate_lem
-use Rattle.year_rates.specs.Rates.{year_rate}
 use Rattle.state.specs.Rates.{rates_of}
 use Rattle.state.specs.Lines.{line_at}
-use Rattle.state.specs.View.{view}
+use Rattle.state.specs.View.{line_of, view}
 use Rattle.ledger.specs.Answer.{refused_of}
 use Rattle.refusal.specs.Number.{number_of, refusal_of}
 use Rattle.ledger.specs.Does.{Settled, Does}
 use Rattle.patterns.specs.AddPattern.{follows_last, Turned}
 use Rattle.ledger.proofs.Settling.{refused, goes_on}
-use Rattle.state.proofs.Limited.{last_year, line_limited}
-use Rattle.state.proofs.Views.{line_is, declared_is}
+use Rattle.state.proofs.Limited.{line_limited}
+use Rattle.state.proofs.Views.{line_is}
 use Rattle.patterns.proofs.Turns.{follows_is}
 
 -- questions 3, 4 and 6
@@ -56,67 +49,65 @@ module _ (book : Book) (store : List ℕ) (letter year : ℕ) (paid incurred : L
   call = add_pattern letter year paid incurred
 
   first_is : first_no (book_questions (view book store) call)
-      ≡ (if line.declared then (if given (rates_of book.rates year) then (if follows_last line year then (if has_incurred call then (if climbs call then none else some 12) else some 11) else some 10) else some 9) else some 8)
-  unfolding book_questions
-  first_is = rw (declared_is store letter line here, line_is store letter line here, follows_is store letter line year)
-
-  pub dated : 0 < line.kept → is_year line.last ≡ true
-  dated = last_year letter line (line_limited store letter line here)
+      ≡ (if is_some line.opening then (if is_some (rates_of book.rates year) then (if follows_last line year then (if has_incurred call then (if climbs call then None else Some 12) else Some 11) else Some 10) else Some 9) else Some 8)
+  unfolding book_questions line_of
+  first_is = rw (line_is store letter line here, follows_is store letter line year (line_limited store letter line here))
 
   module _ (r : Outcome) where
-    pub undeclared : line.declared ≡ false → r ≡ refused_of book refusal.NotDeclared → Settled book call store r store
-    undeclared d er = refused book refusal.NotDeclared (first_no (book_questions (view book store) call)) call store r (first_is ∙ rw d) er
+    module _ (given : Bool) (eg : given ≡ is_some line.opening) where
+      pub undeclared : given ≡ false → r ≡ refused_of book refusal.NotDeclared → Settled book call store r store
+      undeclared d er = refused book refusal.NotDeclared (first_no (book_questions (view book store) call)) call store r (first_is ∙ rw (← eg, d)) er
 
-    module _ (d : line.declared ≡ true) (rate : YearRate) (erate : year_rate rate ≡ rates_of book.rates year) where
-      pub unrated : rate ≡ year_rate_lem.Missing → r ≡ refused_of book refusal.NoRate → Settled book call store r store
-      unrated e er = refused book refusal.NoRate (first_no (book_questions (view book store) call)) call store r (first_is ∙ rw (d, ← erate, e)) er
+      module _ (d : given ≡ true) (rate : Option ℕ) (erate : rate ≡ rates_of book.rates year) where
+        pub unrated : rate ≡ None → r ≡ refused_of book refusal.NoRate → Settled book call store r store
+        unrated e er = refused book refusal.NoRate (first_no (book_questions (view book store) call)) call store r (first_is ∙ rw (← eg, d, ← erate, e)) er
 
-      module _ (number : Rate) (e : rate ≡ year_rate_lem.Given number) (follows : Bool) (ef : follows ≡ follows_last line year) where
-        pub out_of_turn : follows ≡ false → r ≡ refused_of book refusal.OutOfTurn → Settled book call store r store
-        out_of_turn f er =
-            refused book refusal.OutOfTurn (first_no (book_questions (view book store) call)) call store r (first_is ∙ rw (← ef, f, ← erate, e, d)) er
+        module _ (number : ℕ) (e : rate ≡ Some number) (follows : Bool) (ef : follows ≡ follows_last line year) where
+          pub out_of_turn : follows ≡ false → r ≡ refused_of book refusal.OutOfTurn → Settled book call store r store
+          out_of_turn f er =
+              refused book refusal.OutOfTurn (first_no (book_questions (view book store) call)) call store r (first_is ∙ rw (← ef, f, ← erate, e, ← eg, d)) er
 
-  pub turned : line.declared ≡ true → (rate : YearRate) → year_rate rate ≡ rates_of book.rates year → (number : Rate) → rate ≡ year_rate_lem.Given number → (follows : Bool) → follows ≡ follows_last line year → follows ≡ true → Turned book store line letter year (rate_number number) paid incurred
-  turned d rate erate number e follows ef f = record { sound = sound; here = here; declared = d; rated = sym erate ∙ ap year_rate e; turn = sym ef ∙ f }
+  pub turned : (given : Bool) → given ≡ is_some line.opening → given ≡ true → (rate : Option ℕ) → rate ≡ rates_of book.rates year → (number : ℕ) → rate ≡ Some number → (follows : Bool) → follows ≡ follows_last line year → follows ≡ true → Turned book store line letter year number paid incurred
+  turned given eg d rate erate number e follows ef f = record { sound = sound; here = here; declared = sym eg ∙ d; rated = sym erate ∙ e; turn = sym ef ∙ f }
 
 -- questions 11 and 12, by what `discount` answers
 abbrev first_of : Bool → Bool → Option ℕ
 first_of a b = first_no ((11, a) ∷ (12, b) ∷ [])
 
-judged_fine : (a b : Bool) (letter : ℕ) (given : List Age) (p : Pattern) → (pattern_by (schedule_by (first_of a b) letter given).verdict p).verdict ≡ verdict.Fine → (a ≡ true) × (b ≡ true)
-judged_fine true true letter given p e = (refl, refl)
-judged_fine true false letter given p e = let z : ◌≡◌ {A = ℕ} 0 1 = cc in absurd (omega arith)
-judged_fine false b letter given p e = let z : ◌≡◌ {A = ℕ} 0 1 = cc in absurd (omega arith)
+judged_fine : (a b : Bool) (x p : Pattern) → unless (first_of a b) x ≡ Ok p → (a ≡ true) × (b ≡ true) × (x ≡ p)
+judged_fine true true x p e = (refl, refl, cc e)
+judged_fine true false x p e = let z : ◌≡◌ {A = ℕ} 0 1 = cc in absurd (omega arith)
+judged_fine false b x p e = let z : ◌≡◌ {A = ℕ} 0 1 = cc in absurd (omega arith)
 
-judged_refused : (a b : Bool) (letter : ℕ) (given : List Age) (p : Pattern) → p.verdict ≡ verdict.Fine → (question : Refusal) → (pattern_by (schedule_by (first_of a b) letter given).verdict p).verdict ≡ verdict.Refused question → first_of a b ≡ some (number_of question)
+judged_refused : (a b : Bool) (x : Pattern) (question : Refusal) → unless (first_of a b) x ≡ Err question → first_of a b ≡ Some (number_of question)
 unfolding refusal_of
-judged_refused true true letter given p f question e = let z : ◌≡◌ {A = ℕ} 0 1 = cc in absurd (omega arith)
-judged_refused true false letter given p f question e = let same : refusal.RatioFalls ≡ question = cc in ap (λ (q : Refusal). some (number_of q)) same
-judged_refused false b letter given p f question e = let same : refusal.IncurredTooSmall ≡ question = cc in ap (λ (q : Refusal). some (number_of q)) same
+judged_refused true true x question e = let z : ◌≡◌ {A = ℕ} 0 1 = cc in absurd (omega arith)
+judged_refused true false x question e = let same : refusal.RatioFalls ≡ question = cc in ap (λ (q : Refusal). Some (number_of q)) same
+judged_refused false b x question e = let same : refusal.IncurredTooSmall ≡ question = cc in ap (λ (q : Refusal). Some (number_of q)) same
 
 amounts : (y a b : Bool) → (y && a && b) ≡ true → (a && b) ≡ true
 amounts true a b e = e
 amounts false a b e = let z : ◌≡◌ {A = ℕ} 0 1 = cc in absurd (omega arith)
 
-module _ (book : Book) (store : List ℕ) (line : Line) (letter year rate : ℕ) (paid incurred : List ℕ) (pre : Turned book store line letter year rate paid incurred) (pattern : Pattern) (ep : pattern ≡ pattern_of letter rate paid incurred) where
+module _ (book : Book) (store : List ℕ) (line : Line) (letter year rate : ℕ) (paid incurred : List ℕ) (pre : Turned book store line letter year rate paid incurred) (answered : Result Pattern Refusal) (ep : answered ≡ pattern_of letter rate paid incurred) where
   abbrev asks : Call
   asks = add_pattern letter year paid incurred
 
   abbrev fine : Pattern
   fine = kept_of letter rate (schedule letter (ages_of paid incurred))
 
-  pattern_is : pattern ≡ pattern_by (schedule_by (first_of (has_incurred asks) (climbs asks)) letter (ages_of paid incurred)).verdict fine
-  pattern_is = ep ∙ rw (pre.sound.letter, pre.sound.lengths, amounts (is_year year) (all is_amount paid) (all is_amount incurred) pre.sound.limits)
+  answered_is : answered ≡ unless (first_of (has_incurred asks) (climbs asks)) fine
+  answered_is = ep ∙ rw (pre.sound.letter, pre.sound.lengths, amounts (is_year year) (list_all is_amount paid) (list_all is_amount incurred) pre.sound.limits)
 
   first_of_two : first_no (book_questions (view book store) asks) ≡ first_of (has_incurred asks) (climbs asks)
   first_of_two = first_is book store letter year paid incurred pre.sound line pre.here ∙ rw (pre.turn, pre.rated, pre.declared)
 
-  pub passes : pattern.verdict ≡ verdict.Fine → (first_no (book_questions (view book store) asks) ≡ none) × (pattern ≡ fine)
-  passes e =
-      let both = judged_fine (has_incurred asks) (climbs asks) letter (ages_of paid incurred) fine (rw pattern_is at e) in
-      (first_of_two ∙ rw (both.0, both.1), pattern_is ∙ rw (both.0, both.1))
+  pub passes : (pattern : Pattern) → answered ≡ Ok pattern → (first_no (book_questions (view book store) asks) ≡ None) × (pattern ≡ fine)
+  passes pattern e =
+      let both = judged_fine (has_incurred asks) (climbs asks) fine pattern (sym answered_is ∙ e) in
+      (first_of_two ∙ rw (both.0, both.1), sym both.2)
 
-  pub ratios_refused : (question : Refusal) → pattern.verdict ≡ verdict.Refused question → (r : Outcome) → r ≡ refused_of book question → Settled book asks store r store
+  pub ratios_refused : (question : Refusal) → answered ≡ Err question → (r : Outcome) → r ≡ refused_of book question → Settled book asks store r store
   ratios_refused question e r er =
       refused book question (first_no (book_questions (view book store) asks)) asks store r
-      (first_of_two ∙ judged_refused (has_incurred asks) (climbs asks) letter (ages_of paid incurred) fine refl question (rw pattern_is at e)) er
+      (first_of_two ∙ judged_refused (has_incurred asks) (climbs asks) fine question (sym answered_is ∙ e)) er

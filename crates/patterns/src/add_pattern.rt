@@ -1,11 +1,8 @@
 // "PATT, letter, year, then paid and incurred an age"
-ghost use Rattle.std.specs.Prelude.{true, [], ◌∷◌, ◌++◌, ◌≡◌, ◌<◌, length};
-ghost use Rattle.model.specs.Kind.{is_year};
+ghost use Rattle.std.specs.Prelude.{true, [], ◌∷◌, ◌++◌, ◌≡◌};
 ghost use Rattle.model.specs.Call.{add_pattern};
 ghost use Rattle.model.specs.Question.{Sound, has_lengths, is_within_limits};
 ghost use Rattle.model.specs.Step.{as_numbers};
-ghost use Rattle.kinds.specs.Rate.{rate_number};
-ghost use Rattle.state.specs.Store.{size};
 ghost use Rattle.state.specs.Lines.{with_line_of, with_pattern_of};
 ghost use Rattle.state.specs.Patterns.{with_slot_of};
 ghost use Rattle.ledger.specs.declared.answer.Answer.TheVariants.{Fact};
@@ -13,22 +10,22 @@ ghost use Rattle.ledger.specs.Answer.{accepted_of};
 ghost use Rattle.ledger.specs.Does.{Does, Settled};
 ghost use Rattle.patterns.specs.AddPattern.{follows_last, Turned};
 
-use factor::pattern::discount;
+use factor::pattern::{Pattern, discount};
 use kinds::rate::Rate;
-use kinds::year::is_year;
+use kinds::year::Year;
 use ledger::accept::accept;
 use ledger::answer::{Answer, Outcome};
 use ledger::refuse::refuse;
 use letters::letter::{ages, is_covered};
-use line_limits::line::Line;
+use line_limits::line::{Line, Patterns};
 use money::amount::Amount;
-use refusal::{Refusal, Verdict};
+use refusal::Refusal;
 use state::book::Book;
 use state::lines::{keep_line, line_of};
 use state::patterns::keep_pattern;
 use state::store::Store;
 use year_rates::hints::hint_of;
-use year_rates::rates::{YearRate, rate_of};
+use year_rates::rates::rate_of;
 
 // Questions 3, 4 and 6, and on.
 pub fn add_pattern(
@@ -65,7 +62,7 @@ fn has_lengths(letter: u8, paid: &[u64], incurred: &[u64]) -> bool
 fn has_limits(year: u64, paid: &[u64], incurred: &[u64]) -> bool
     ensures { result ≡ is_within_limits (add_pattern 0 year paid.now incurred.now) }
 {
-    is_year(year) && Amount::all(paid) && Amount::all(incurred)
+    Year::contains(year) && Amount::all(paid) && Amount::all(incurred)
 }
 
 // "8. PATT, YEAR: is the line declared?" "9. PATT: has the year a rate?" "10. PATT: is it the line's first pattern, or the year after its last one ..", and on.
@@ -81,9 +78,8 @@ fn ask_declared(
     ensures { Settled book (add_pattern letter year paid.now incurred.now) store.old result store.new }
 {
     let line = line_of(store, letter);
-    if line.declared {
-        let given = rate_of(book, year);
-        let YearRate::Given(rate) = given else {
+    if line.opening.is_some() {
+        let Some(rate) = rate_of(book, year) else {
             return refuse(book, Refusal::NoRate);
         };
         if follows_last(line, year) {
@@ -95,21 +91,15 @@ fn ask_declared(
 }
 
 // "is it the line's first pattern, or the year after its last one, that last one closed if any year is closed?"
+#[tactic(auto, unfolding(crate::specs::AddPattern::follows_last))]
 fn follows_last(line: Line, year: u64) -> bool
-    requires { 0 < line.kept → is_year line.last ≡ true }
     ensures { result ≡ follows_last line year }
 {
-    if line.kept == 0 {
+    let Some(patterns) = line.patterns else {
         return true;
-    }
-    let last = line.last;
-    if year == last + 1 {
-        if is_year(line.closed) {
-            return line.closed == last;
-        }
-        return true;
-    }
-    false
+    };
+    let last = patterns.last;
+    year > last && year - last == 1 && line.closed.is_none_or(|closed| closed == last)
 }
 
 // "11. PATT: is every incurred above 0 and no paid above its incurred?" "12. PATT: does no cumulative ratio fall from one age to the next?", and the pattern.
@@ -123,18 +113,12 @@ fn ask_ratios(
     paid: &[u64],
     incurred: &[u64],
 ) -> Outcome
-    requires { Turned book store.old line letter year (rate_number rate) paid.now incurred.now }
+    requires { Turned book store.old line letter year rate paid.now incurred.now }
     ensures { Settled book (add_pattern letter year paid.now incurred.now) store.old result store.new }
 {
-    let pattern = discount(letter, rate, hint_of(store, year), paid, incurred);
-    let verdict = pattern.verdict;
-    match verdict {
-        Verdict::Fine => {
-            let factors = pattern.factors;
-            let composite = pattern.composite;
-            keep(book, store, line, letter, year, factors, composite)
-        }
-        Verdict::Refused(refusal) => refuse(book, refusal),
+    match discount(letter, rate, hint_of(store, year), paid, incurred) {
+        Ok(pattern) => keep(book, store, line, letter, year, pattern),
+        Err(refusal) => refuse(book, refusal),
     }
 }
 
@@ -145,12 +129,11 @@ fn keep(
     line: Line,
     letter: u8,
     year: u64,
-    factors: [u64; 10],
-    composite: u64,
+    pattern: Pattern,
 ) -> Outcome
-    ensures { (result ≡ accepted_of book (Fact letter year)) × (length store.old ≡ size) × (store.new ≡ with_line_of (with_slot_of store.old letter year (factors ++ (composite ∷ []))) letter (with_pattern_of letter line year)) }
+    ensures { (result ≡ accepted_of book (Fact letter year)) × (store.new ≡ with_line_of (with_slot_of store.old letter year (pattern.factors ++ (pattern.composite ∷ []))) letter (with_pattern_of letter line year)) }
 {
-    keep_pattern(store, letter, year, factors, composite);
+    keep_pattern(store, letter, year, pattern.factors, pattern.composite);
     keep_line(store, letter, with_pattern(letter, line, year));
     accept(book, Answer::Fact { letter, year })
 }
@@ -159,14 +142,13 @@ fn keep(
 fn with_pattern(letter: u8, line: Line, year: u64) -> Line
     ensures { result ≡ with_pattern_of letter line year }
 {
+    let before = line.patterns.map_or(0, |patterns| patterns.count);
     let most = ages(letter) as u64;
-    let kept = line.kept;
-    let mut later = line;
-    later.last = year;
-    if kept < most {
-        later.kept = kept + 1;
-    } else {
-        later.kept = most;
+    Line {
+        patterns: Some(Patterns {
+            last: year,
+            count: before.saturating_add(1).min(most),
+        }),
+        ..line
     }
-    later
 }

@@ -10,17 +10,18 @@ use borrow.Author.Tests.{leb-true, ltb-true, le-leb, lt-leb, lt-ltb, le-ltb}
 use lib.Dec.{leb, ltb}
 use lib.ListN.{length, take, drop, get_or, set, drop_of_length-le, length-set}
 use lib.Seq.{take-suc-set, append_snoc}
-use Rattle.model.specs.Basics.{all, last_or}
+use Rattle.model.specs.Basics.{last_or}
+use Rattle.std.specs.List.{list_all}
+use Rattle.std.specs.Prelude.{Some, None}
 use Rattle.model.specs.Kind.{is_amount}
 use Rattle.model.specs.Pattern.{age, Age, ages_of, cumulative_ratio, cumulative, payments}
 use Rattle.model.specs.Question.{is_incurred, climbs_from}
-use Rattle.model.proofs.Lists.{true≢false, and_left, and_right, all_at, drop_next}
+use Rattle.model.proofs.Lists.{and_left, and_right, all_at, drop_next}
 use Rattle.model.proofs.Unpaid.{ratio_small}
 use Rattle.model.proofs.Ages.{length_ages_of}
-use Rattle.kinds.proofs.All
-use Rattle.kinds.proofs.All.{Passing}
 use Rattle.payments.specs.Ratio.{Sound}
-use Rattle.payments.specs.Payment.{Paired, Payable, Paid}
+use Rattle.payments.specs.Payment.{Paired, Payable}
+use Rattle.payments.specs.PaidByAge.{PaidByAge}
 
 -- an age of the two lists
 pub age_at : (paid incurred : List ℕ) (i : ℕ) → length incurred ≡ length paid → i < length paid → get_or (ages_of paid incurred) i (age 0 0) ≡ age (get_or paid i 0) (get_or incurred i 0)
@@ -46,25 +47,25 @@ paid_above p i lt = by (ltb 0 i) (leb p i) (lt-leb p i lt)
 pub incurred_some : (p i : ℕ) → (i ≡ 0 → ⊥) → p ≤ i → is_incurred (age p i) ≡ true
 incurred_some p i n le = rw (lt-ltb 0 i (omega arith), le-leb p i le)
 
--- the loop that puts the test to each age
+-- the ages before place i pass the test
 abbrev pub Incurring : List ℕ → List ℕ → ℕ → Type 0
-Incurring paid incurred i = Passing is_incurred (ages_of paid incurred) i
+Incurring paid incurred i = list_all is_incurred (ages_of paid incurred) ≡ list_all is_incurred (drop i (ages_of paid incurred))
 
 module _ (paid incurred : List ℕ) (i : ℕ) (g : Paired paid incurred) (s : Incurring paid incurred i) (lt : i < length paid) where
-  within : i < length (ages_of paid incurred)
-  within = omega (arith, ages_length paid incurred g)
+  asked : list_all is_incurred (ages_of paid incurred) ≡ (is_incurred (age (get_or paid i 0) (get_or incurred i 0)) && list_all is_incurred (drop (i + 1) (ages_of paid incurred)))
+  asked = s ∙ rw (drop_next (ages_of paid incurred) i (age 0 0) (omega (arith, ages_length paid incurred g)), age_at paid incurred i g.same lt)
 
   pub incurred_on : (get_or incurred i 0 ≡ 0 → ⊥) → get_or paid i 0 ≤ get_or incurred i 0 → Incurring paid incurred (i + 1)
-  incurred_on n le = All.on is_incurred (ages_of paid incurred) i (age 0 0) s within (rw (age_at paid incurred i g.same lt) (incurred_some (get_or paid i 0) (get_or incurred i 0) n le))
+  incurred_on n le = asked ∙ rw (incurred_some (get_or paid i 0) (get_or incurred i 0) n le)
 
-  pub stop_at_none : get_or incurred i 0 ≡ 0 → false ≡ all is_incurred (ages_of paid incurred)
-  stop_at_none z = All.stop is_incurred (ages_of paid incurred) i (age 0 0) s within (rw (age_at paid incurred i g.same lt) (incurred_none (get_or paid i 0) (get_or incurred i 0) z))
+  pub stop_at_none : get_or incurred i 0 ≡ 0 → false ≡ list_all is_incurred (ages_of paid incurred)
+  stop_at_none z = sym (asked ∙ rw (incurred_none (get_or paid i 0) (get_or incurred i 0) z))
 
-  pub stop_at_above : get_or incurred i 0 < get_or paid i 0 → false ≡ all is_incurred (ages_of paid incurred)
-  stop_at_above l = All.stop is_incurred (ages_of paid incurred) i (age 0 0) s within (rw (age_at paid incurred i g.same lt) (paid_above (get_or paid i 0) (get_or incurred i 0) l))
+  pub stop_at_above : get_or incurred i 0 < get_or paid i 0 → false ≡ list_all is_incurred (ages_of paid incurred)
+  stop_at_above l = sym (asked ∙ rw (paid_above (get_or paid i 0) (get_or incurred i 0) l))
 
-pub incurred_end : (paid incurred : List ℕ) (i : ℕ) → Paired paid incurred → Incurring paid incurred i → length paid ≤ i → true ≡ all is_incurred (ages_of paid incurred)
-incurred_end paid incurred i g s le = All.end is_incurred (ages_of paid incurred) i s (omega (arith, ages_length paid incurred g))
+pub incurred_end : (paid incurred : List ℕ) (i : ℕ) → Paired paid incurred → Incurring paid incurred i → length paid ≤ i → true ≡ list_all is_incurred (ages_of paid incurred)
+incurred_end paid incurred i g s le = sym (s ∙ rw (drop_of_length-le (ages_of paid incurred) {i = i} (omega (arith, ages_length paid incurred g))))
 
 -- an age of a payable record has a ratio
 pub sound_at : (paid incurred : List ℕ) (i : ℕ) → Payable paid incurred → i < length paid → Sound (get_or paid i 0) (get_or incurred i 0)
@@ -106,8 +107,8 @@ module _ (paid incurred pay : List ℕ) (last i : ℕ) (g : Payable paid incurre
   climbing_here = rw e (s.climbing ∙ ap (λ (l : List Age). climbs_from last (map cumulative_ratio l)) rest)
 
   -- a ratio that falls
-  pub stop : ratio < last → false ≡ climbs_from 0 (map cumulative_ratio (ages_of paid incurred))
-  stop l = sym (climbing_here ∙ rw (lt-leb last ratio l))
+  pub stop : ratio < last → PaidByAge paid incurred None
+  stop l = climbing_here ∙ rw (lt-leb last ratio l)
 
   -- one that does not
   pub on : last ≤ ratio → Paying paid incurred (set pay i (2 * ratio - 2 * last)) ratio (i + 1)
@@ -124,17 +125,15 @@ module _ (paid incurred pay : List ℕ) (last i : ℕ) (g : Payable paid incurre
         small = ratio_fits;
       }
 
-pub end : (paid incurred pay : List ℕ) (last i : ℕ) → Payable paid incurred → Paying paid incurred pay last i → length paid ≤ i → Paid paid incurred true pay last
-end paid incurred pay last i g s le =
-    let n : i ≡ length paid = omega (arith, s.inside) in
-    let d : drop i (ages_of paid incurred) ≡ [] = drop_of_length-le (ages_of paid incurred) {i = i} (omega (arith, ages_length paid incurred g.pairs)) in
-    record {
-      climbing = sym (s.climbing ∙ rw d);
-      by_age = λ t. rw (← n) (sym (append-nil (take i pay)) ∙ rw d at s.by_age);
-      in_all = λ t. rw d at s.in_all;
-      small = s.small;
-      places = s.places;
-    }
-
-pub falls : (paid incurred pay : List ℕ) (last : ℕ) → last ≤ 100000000 → length pay ≡ 16 → false ≡ climbs_from 0 (map cumulative_ratio (ages_of paid incurred)) → Paid paid incurred false pay last
-falls paid incurred pay last l n e = record { climbing = e; by_age = λ t. absurd (true≢false (sym t)); in_all = λ t. absurd (true≢false (sym t)); small = l; places = n }
+module _ (paid incurred pay : List ℕ) (last i : ℕ) (g : Payable paid incurred) (s : Paying paid incurred pay last i) (le : length paid ≤ i) where
+  pub end : PaidByAge paid incurred (Some (record { pay = pay; last = last }))
+  end =
+      let n : i ≡ length paid = omega (arith, s.inside) in
+      let d : drop i (ages_of paid incurred) ≡ [] = drop_of_length-le (ages_of paid incurred) {i = i} (omega (arith, ages_length paid incurred g.pairs)) in
+      record {
+        climbs = s.climbing ∙ rw d;
+        by_age = rw (← n) (sym (append-nil (take i pay)) ∙ rw d at s.by_age);
+        in_all = rw d at s.in_all;
+        small = s.small;
+        places = s.places;
+      }

@@ -2,22 +2,13 @@
 -- Assumes nothing.
 use mathlib.Core.Path.{◌≡◌, refl}
 use mathlib.Core.List.{List, [], ◌∷◌, ◌++◌}
-use Prim.Native.Nat.{ℕ, zero, suc, ◌+◌, ◌-◌, ◌/◌, min, ◌≤◌, ◌<◌}
+use Prim.Native.Nat.{ℕ, zero, suc, ◌+◌, ◌-◌, min, ◌≤◌, ◌<◌}
 use native.Mathlib.Omega.{arith}
 use native.Mathlib.Numerals.{add-one}
-use borrow.Author.Tests.{eq-eqb, ne_eqb}
-use lib.ListN.{length, take, drop, get_or, set, replicate, length-set, drop_of_length-le}
+use lib.ListN.{length, take, drop, get_or, set, length-set, drop_of_length-le}
 use lib.Seq.{take-suc-set, append_snoc, set_split, get_or-take}
 use Rattle.model.specs.Basics.{sum}
 use Rattle.model.specs.Tail.{capped, tail_cap, ten_year_tail, payment_at}
-
--- the cap, by the test of the payment at age 10
-module _ (eighth ninth tenth : ℕ) where
-  pub mean_cap : tenth ≡ 0 → (eighth + ninth + tenth) / 3 ≡ tail_cap eighth ninth tenth
-  mean_cap z = rw (eq-eqb tenth 0 z)
-
-  pub paid_cap : (tenth ≡ 0 → ⊥) → tenth ≡ tail_cap eighth ninth tenth
-  paid_cap n = rw (ne_eqb tenth 0 n)
 
 -- the ages before place `at` are paid, and the rest is to come
 pub record Tailing (pay : List ℕ) (cap unpaid : ℕ) (paid : List ℕ) (left at : ℕ) : Type 0 where
@@ -59,9 +50,3 @@ three_of (x ∷ pay) (suc k) = omega (arith, three_of pay k)
 pub last_three : (pay : List ℕ) → sum (take 10 pay) ≤ 200000000 → payment_at 8 pay + payment_at 9 pay + payment_at 10 pay ≤ 200000000
 last_three pay le =
     omega (arith, three_of (take 10 pay) 7, get_or-take 10 pay 7 0 (omega arith), get_or-take 10 pay 8 0 (omega arith), get_or-take 10 pay 9 0 (omega arith))
-
--- a two-year line: ages 1 and 2 as they were, 3 and 4, and zeros
-pub two : (pay : List ℕ) (a b : ℕ) → length pay ≡ 16 → set (set (set (set (replicate 16 0) 0 (get_or pay 0 0)) 1 (get_or pay 1 0)) 2 a) 3 b ≡ take 2 pay ++ (a ∷ b ∷ []) ++ replicate 12 0
-two [] a b n = absurd (omega arith)
-two (x ∷ []) a b n = absurd (omega arith)
-two (x ∷ y ∷ pay) a b n = refl

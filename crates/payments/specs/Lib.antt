@@ -1,3 +1,4 @@
+pub mod PaidByAge
 pub mod Payment
 pub mod Ratio
 pub mod Schedule

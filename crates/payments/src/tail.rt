@@ -1,5 +1,5 @@
 // The payments after the ages that a pattern record gives.
-ghost use Rattle.std.specs.Prelude.{◌≡◌, ◌++◌, take, replicate, ◌+◌, min, ◌≤◌};
+ghost use Rattle.std.specs.Prelude.{◌≡◌, ◌++◌, take, replicate, ◌+◌, ◌≤◌};
 ghost use Rattle.model.specs.Basics.{sum};
 ghost use Rattle.model.specs.Tail.{tail_cap, ten_year_tail, two_year_tail, payment_at};
 
@@ -11,12 +11,10 @@ pub fn ten_year_tail(pay: [u64; 16], unpaid: u64) -> [u64; 16]
     let cap = tail_cap(pay[7], pay[8], pay[9]);
     let mut paid = pay;
     let mut left = unpaid;
-    let mut at = 10;
-    while at < 15 {
-        let payment = smaller(cap, left);
+    for at in 10..15 {
+        let payment = cap.min(left);
         paid[at] = payment;
         left -= payment;
-        at += 1;
     }
     paid[15] = left;
     paid
@@ -43,10 +41,4 @@ fn tail_cap(eighth: u64, ninth: u64, tenth: u64) -> u64
         return (eighth + ninth + tenth) / 3;
     }
     tenth
-}
-
-fn smaller(a: u64, b: u64) -> u64
-    ensures { result ≡ min a b }
-{
-    if a < b { a } else { b }
 }

@@ -1,9 +1,9 @@
 -- Of a line, the bytes that are kept tell all: a longer one is refused by its length alone.
 -- Assumes nothing.
+use Rattle.std.specs.Prelude.{Some}
 use mathlib.Core.Logic.{⊎_elim}
 use mathlib.Core.List.{List, [], ◌∷◌, ◌++◌}
 use mathlib.Core.Path.{◌≡◌, refl, sym, ◌∙◌}
-use mathlib.Core.Option.{some}
 use Prim.Native.Nat.{ℕ, zero, suc, ◌-◌, ◌<◌}
 use native.Mathlib.Nat.{eq-zero-or-pos}
 use native.Mathlib.Omega.{arith}
@@ -32,8 +32,8 @@ ended_long : (s : Progress) (line : List ℕ) → longest < length line
     → ended (with_line_lem s line) ≡ record { book = (refuse s.book 1).book; own = one_more_refused s.own; store = s.store; line = []; written = s.written ++ text (refuse s.book 1).answer }
 unfolding ended book_settled store_settled
 ended_long s line long =
-    let first : first_no (questions s.book (as_bytes line)) ≡ some 1 = first_is_length s.book line (lt-leb (length line) longest long) in
-    rw (step_is s.book (as_bytes line) (some 1) first, first)
+    let first : first_no (questions s.book (as_bytes line)) ≡ Some 1 = first_is_length s.book line (lt-leb (length line) longest long) in
+    rw (step_is s.book (as_bytes line) (Some 1) first, first)
 
 pub ended_cut : (s : Progress) (line : List ℕ) → ended (with_line_lem s (take kept_bytes line)) ≡ ended (with_line_lem s line)
 ended_cut s line =

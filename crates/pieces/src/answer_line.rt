@@ -1,62 +1,38 @@
 // A line that has ended: its record applied, and the answer's text put.
 ghost use Rattle.std.specs.Prelude.{◌++◌};
-ghost use Rattle.pieces.specs.Feed.{bytes_of, Answers};
+ghost use Rattle.pieces.specs.Feed.{Answers};
 
-use crate::line::{OpenLine, count, join};
+use crate::line::OpenLine;
 use answer::text::put_answer;
+use arrayvec::ArrayVec;
 use journal::apply::apply;
 use state::book::Book;
 use state::store::Store;
 
-// The later book, and the place after the text.
-#[derive(Clone, Copy)]
-pub struct Answered {
-    pub book: Book,
-    pub next: usize,
-}
-
-pub fn answer_line(
+// The later book.
+pub fn answer_line<const N: usize>(
     book: Book,
     store: &mut Store,
     line: &[u8],
-    out: &mut [u8],
-    at: usize,
-) -> Answered
-    ensures { Answers book store.old line.now out.old at result store.new out.new }
+    out: &mut ArrayVec<u8, N>,
+) -> Book
+    ensures { Answers N book store.old line.now out.old.items result store.new out.new.items }
 {
     let outcome = apply(book, store, line);
-    let answer = outcome.answer;
-    let next = put_answer(out, at, answer, store);
-    let later = outcome.book;
-    Answered { book: later, next }
+    put_answer(out, outcome.answer, store);
+    outcome.book
 }
 
 // A line of which a piece before this one held the start.
-pub fn answer_joined(
+pub fn answer_joined<const N: usize>(
     book: Book,
     store: &mut Store,
     begun: &[u8],
     rest: &[u8],
-    out: &mut [u8],
-    at: usize,
-) -> Answered
-    ensures { Answers book store.old (begun.now ++ rest.now) out.old at result store.new out.new }
+    out: &mut ArrayVec<u8, N>,
+) -> Book
+    ensures { Answers N book store.old (begun.now ++ rest.now) out.old.items result store.new out.new.items }
 {
-    let line = join(begun, rest);
-    answer_open(book, store, line, out, at)
-}
-
-// An open line that has ended.
-pub fn answer_open(
-    book: Book,
-    store: &mut Store,
-    line: OpenLine,
-    out: &mut [u8],
-    at: usize,
-) -> Answered
-    ensures { Answers book store.old (bytes_of line) out.old at result store.new out.new }
-{
-    let count = count(line);
-    let bytes = line.bytes;
-    answer_line(book, store, &bytes[..count], out, at)
+    let line = OpenLine::join(begun, rest);
+    answer_line(book, store, line.as_slice(), out)
 }

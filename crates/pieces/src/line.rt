@@ -1,8 +1,6 @@
 // The line so far, where a piece of the input ends within a line.
-ghost use Rattle.std.specs.Prelude.{◌++◌, ◌≡◌, ◌-◌, ◌≤◌, min, length, take};
-ghost use Rattle.answer.specs.Put.{Puts};
+ghost use Rattle.std.specs.Prelude.{◌++◌, ◌≡◌, ◌+◌, ◌-◌, ◌≤◌, [], length, take, drop};
 ghost use Rattle.pieces.specs.Progress.{kept_bytes};
-ghost use Rattle.pieces.specs.Feed.{bytes_of, open_line};
 
 use record::read::LONGEST;
 
@@ -16,40 +14,45 @@ pub struct OpenLine {
     pub count: usize,
 }
 
-// The line with more bytes: as many of them as are kept.
-pub fn join(begun: &[u8], more: &[u8]) -> OpenLine
-    ensures { result ≡ open_line (take kept_bytes (begun.now ++ more.now)) }
-{
-    let mut bytes = [0u8; KEPT];
-    let first = put_some(&mut bytes, 0, begun);
-    let count = put_some(&mut bytes, first, more);
-    OpenLine { bytes, count }
-}
+impl OpenLine {
+    ghost use Rattle.pieces.specs.Feed.{bytes_of, open_line};
 
-// How many bytes the line has.
-pub fn count(line: OpenLine) -> usize
-    ensures { result ≡ length (bytes_of line) }
-{
-    least(line.count, KEPT)
-}
+    // No byte of a line.
+    pub(crate) fn empty() -> OpenLine
+        ensures { result ≡ open_line [] }
+    {
+        OpenLine {
+            bytes: [0; KEPT],
+            count: 0,
+        }
+    }
 
-fn least(a: usize, b: usize) -> usize
-    ensures { result ≡ min a b }
-{
-    if a < b { a } else { b }
+    // The line with more bytes: as many of them as are kept.
+    pub(crate) fn join(begun: &[u8], more: &[u8]) -> OpenLine
+        ensures { result ≡ open_line (take kept_bytes (begun.now ++ more.now)) }
+    {
+        let mut bytes = [0; KEPT];
+        let first = put_some(&mut bytes, 0, begun);
+        let count = put_some(&mut bytes, first, more);
+        OpenLine { bytes, count }
+    }
+
+    // The bytes of the line.
+    pub(crate) fn as_slice(&self) -> &[u8]
+        ensures { result.now ≡ bytes_of self.now }
+    {
+        &self.bytes[..self.count.min(KEPT)]
+    }
 }
 
 // As much of a text as has room from a place on; the place after it is answered.
 fn put_some(to: &mut [u8], at: usize, text: &[u8]) -> usize
     requires { at ≤ length to.old }
-    ensures { Puts to.old at (take (length to.old - at) text.now) to.new result }
+    ensures next { result ≡ at + length (take (length to.old - at) text.now) }
+    ensures after { to.new ≡ take at to.old ++ (take (length to.old - at) text.now ++ drop result to.old) }
 {
-    let room = to.len() - at;
-    let n = least(text.len(), room);
-    let mut i = 0;
-    while i < n {
-        to[at + i] = text[i];
-        i += 1;
-    }
-    at + n
+    let count = text.len().min(to.len() - at);
+    let next = at + count;
+    to[at..next].copy_from_slice(&text[..count]);
+    next
 }

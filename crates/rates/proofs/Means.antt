@@ -1,46 +1,46 @@
--- The mean of sixty rates by its cases. It is a rate itself.
+-- The mean of sixty rates. It is a rate itself.
 -- Assumes nothing.
-use mathlib.Core.Bool.{Bool, true, false}
-use mathlib.Core.List.{List}
-use mathlib.Core.Path.{◌≡◌, sym, ◌∙◌}
-use Prim.Native.Nat.{ℕ, ◌+◌, ◌/◌, ◌≤◌}
+use Rattle.std.specs.Prelude.{◌≡◌, true, false, List, [], ◌∷◌, Some, Ok, Err, ℕ, ◌+◌, ◌*◌, ◌/◌, ◌≤◌, length, sum}
+use Rattle.std.specs.List.{list_all}
+use Rattle.std.proofs.lemmas.Bool.{leb-true, le-leb, eq-eqb, ne_eqb}
+use mathlib.Core.Path.{sym, ◌∙◌}
 use native.Mathlib.Omega.{arith}
-use borrow.Author.Tests.{eq-eqb, ne_eqb, le-leb}
-use lib.ListN.{length}
-use Rattle.model.specs.Basics.{sum, all}
+use Rattle.model.specs.Basics as own
 use Rattle.model.specs.Kind.{is_rate}
+use Rattle.model.proofs.Lists.{and_left, and_right}
+use Rattle.model.proofs.Sums.{sum_is}
 use Rattle.refusal.specs.Number.{refusal_of}
 use Rattle.refusal.specs.declared.Refusal.TheVariants.{WrongCount, OutsideLimits}
-use Rattle.kinds.specs.declared.rate.Rate.{Rate}
-use Rattle.kinds.specs.declared.rate.MaybeRate.{MaybeRate}
-use Rattle.kinds.specs.declared.rate.MaybeRate.TheVariants.{Within, Outside}
-use Rattle.kinds.specs.Rate as kinds
+use Rattle.kinds.specs.Within.{within}
 use Rattle.rates.specs.Rate.{mean_of}
-use Rattle.rates.specs.declared.rate.Mean.TheVariants.{Is, Refused}
-use Rattle.rates.proofs.Totals.{sum_small}
+
+-- rates are at most 2500 each
+pub sum_small : (months : List ℕ) → list_all is_rate months ≡ true → own.sum months ≤ length months * 2500
+sum_small [] a = omega arith
+sum_small (m ∷ months) a =
+    let l : m ≤ 2500 = leb-true _ _ (and_left (is_rate m) (list_all is_rate months) a) in
+    omega (arith, sum_small months (and_right (is_rate m) (list_all is_rate months) a))
 
 module _ (months : List ℕ) where
-  pub counted : (length months ≡ 60 → ⊥) → Refused WrongCount ≡ mean_of months
+  pub counted : (length months ≡ 60 → ⊥) → Err WrongCount ≡ mean_of months
   unfolding refusal_of
   counted n = rw (ne_eqb (length months) 60 n)
 
-  module _ (n : length months ≡ 60) (t : Bool) (et : t ≡ all is_rate months) where
-    pub limited : t ≡ false → Refused OutsideLimits ≡ mean_of months
+  module _ (n : length months ≡ 60) where
+    pub limited : list_all is_rate months ≡ false → Err OutsideLimits ≡ mean_of months
     unfolding refusal_of
-    limited e = rw (eq-eqb (length months) 60 n, ← et, e)
+    limited e = rw (eq-eqb (length months) 60 n, e)
 
-    module _ (e : t ≡ true) (s : ℕ) (es : s ≡ sum months) where
-      pub small : s ≤ 150000
-      small = omega (arith, sum_small months (sym et ∙ e))
+    module _ (e : list_all is_rate months ≡ true) where
+      pub small : sum months ≤ 150000
+      small = omega (arith, sum_is months, sum_small months e)
 
-      module _ (x : MaybeRate) (ex : x ≡ kinds.maybe_rate ((s + 30) / 60)) where
-        within : x ≡ Within (record { value = (s + 30) / 60 })
-        within = ex ∙ rw (le-leb ((s + 30) / 60) 2500 (omega (arith, small)))
+      module _ (t : ℕ) (et : t ≡ sum months) where
+        -- the mean is a rate
+        pub is_mean : within is_rate ((t + 30) / 60) ≡ Some ((t + 30) / 60)
+        is_mean = rw (le-leb ((t + 30) / 60) 2500 (omega (arith, et, small)))
 
-        pub is_mean : (rate : Rate) → x ≡ Within rate → Is rate ≡ mean_of months
-        is_mean rate er =
-            let same : rate ≡ record { value = (s + 30) / 60 } = cc within in
-            rw (eq-eqb (length months) 60 n, ← et, e, same, es)
-
-        pub not_outside : x ≡ Outside → Refused OutsideLimits ≡ mean_of months
-        not_outside er = let z : ◌≡◌ {A = ℕ} 0 1 = cc within in absurd (omega arith)
+        pub mean : (r : ℕ) → within is_rate ((t + 30) / 60) ≡ Some r → Ok r ≡ mean_of months
+        mean r er =
+            let same : r ≡ (t + 30) / 60 = cc (sym er ∙ is_mean) in
+            rw (eq-eqb (length months) 60 n, e, same, et, sum_is months)

@@ -4,9 +4,9 @@
 
 ghost use Rattle.std.specs.Prelude.{◌≡◌, drop};
 ghost use Rattle.model.specs.Field.{fields, field};
-ghost use Rattle.numbers.specs.Number.{Reads};
+ghost use Rattle.numbers.specs.Number.{number_in};
 
-use numbers::number::{Reading, number_from};
+use numbers::number::{Number, number_from};
 
 #[derive(Clone, Copy)]
 pub struct Reader<'a> {
@@ -14,23 +14,25 @@ pub struct Reader<'a> {
     pub at: usize,
 }
 
-// The reader of a line at a place.
-pub fn begin<'a>(line: &'a [u8], at: usize) -> Reader<'a>
-    ensures { (result.line ≡ line.entry) × (result.at ≡ at) }
-{
-    Reader { line, at }
-}
+impl<'a> Reader<'a> {
+    // The reader of a line at a place.
+    pub fn begin(line: &'a [u8], at: usize) -> Reader<'a>
+        ensures { (result.line ≡ line.entry) × (result.at ≡ at) }
+    {
+        Reader { line, at }
+    }
 
-// The number at the reader's place, where `allowed` says whether a minus sign is allowed.
-pub fn number<'a>(reader: Reader<'a>, allowed: bool) -> Reading
-    ensures { Reads allowed (field 0 (fields (drop reader.entry.at reader.entry.line.now))) result }
-{
-    number_from(reader.line, reader.at, allowed)
+    // The number at the reader's place, where `allowed` says whether a minus sign is allowed.
+    pub fn number(self, allowed: bool) -> Option<Number>
+        ensures { result ≡ number_in allowed (field 0 (fields (drop self.entry.at self.entry.line.now))) }
+    {
+        number_from(self.line, self.at, allowed)
+    }
 }
 
 // The number in the field that begins at a place, by the reader of the line.
-pub fn read_number(line: &[u8], at: usize, allowed: bool) -> Reading
-    ensures { Reads allowed (field 0 (fields (drop at line.now))) result }
+pub fn read_number(line: &[u8], at: usize, allowed: bool) -> Option<Number>
+    ensures { result ≡ number_in allowed (field 0 (fields (drop at line.now))) }
 {
-    number(begin(line, at), allowed)
+    Reader::begin(line, at).number(allowed)
 }

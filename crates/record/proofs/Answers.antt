@@ -1,30 +1,28 @@
 -- For callers: what a request and the lists say of the line that they were read from.
 -- Assumes nothing.
-use Rattle.std.specs.Prelude.{if◌then◌else◌}
+use Rattle.std.specs.Prelude.{if◌then◌else◌, Option, None, Some, is_some, Result}
 use mathlib.Core.Bool.{Bool, true, false, false≢true}
 use mathlib.Core.Path.{◌≡◌, refl, sym, ◌∙◌}
 use mathlib.Core.List.{List, [], ◌∷◌, map}
-use mathlib.Core.Option.{Option, none, some}
 use Prim.Native.Nat.{ℕ, suc, ◌+◌, ◌*◌, ◌≤◌, ◌<◌}
 use native.Mathlib.Omega.{arith}
 use borrow.Author.Tests.{eqb-true}
 use lib.ListN.{length, take, drop, get_or}
-use Rattle.model.specs.Basics.{given}
 use Rattle.model.specs.Letter.{ten_year, ages}
 use Rattle.model.specs.Call.{Call, declare, set_rate, totals, register_month, set_rate_from_register}
 use Rattle.model.specs.Field.{fields, field, letter_in, column}
 use Rattle.model.specs.Record.{Word, LINE, RATE, RATE_ALONE, PATT, YEAR, SUM, MIDT, OTHER, record_of, field_count, first_number, call_from}
 use Rattle.model.specs.Step as model
 use Rattle.model.specs.Question.{is_short, has_word, has_letter, has_fields, is_well_written, is_within_limits, line_questions, call_questions, first_no}
-use Rattle.model.proofs.Lists.{some≢none, all_yes}
+use Rattle.model.proofs.Lists.{Some≢None, all_yes}
 use Rattle.model.proofs.Lengths.{lengths_right}
 use Rattle.refusal.specs.Number.{number_of, refusal_of}
 use Rattle.numbers.specs.Number.{capped, has_minus}
 use Rattle.record.specs.Column.{each, size_at, paid_at}
-use Rattle.record.specs.Request.{asked_of, answered, with_numbers, left_in, read_of, Gives}
+use Rattle.record.specs.Request.{asking, answered, with_numbers, left_in, read_of, Gives}
 use Rattle.record.specs.Asks.{pattern_of, year_of, Low, Asks, Says}
-use Rattle.record.specs.declared.request.Request.{Request}
-use Rattle.record.specs.declared.request.Asked.{Asked}
+use Rattle.form.specs.declared.request.Request.{Request}
+use Rattle.refusal.specs.declared.Refusal.{Refusal}
 use Rattle.record.proofs.Caps.{capped_paid, Alike, line_same, rate_same, pattern_same, year_same, month_same, rate_alone_same}
 use Rattle.record.proofs.Columns.{each_column, part_column}
 use Rattle.record.proofs.Gathers.{gathered_at, gathered_length}
@@ -118,37 +116,37 @@ long_by : (t : Bool) (list left : List ℕ) → length left ≡ length list → 
 long_by true list left e = refl
 long_by false list left e = e
 
-pub sizes_long : (line : List ℕ) (minus : List Bool) (sizes : List ℕ) (r : Request) (ms : List Bool) (ns : List ℕ) → Gives (read_of line minus sizes) r ms ns → length ns ≡ length sizes
+pub sizes_long : (line : List ℕ) (minus : List Bool) (sizes : List ℕ) (r : Result Request Refusal) (ms : List Bool) (ns : List ℕ) → Gives (read_of line minus sizes) r ms ns → length ns ≡ length sizes
 unfolding read_of
 sizes_long line minus sizes r ms ns g =
     let word = record_of (fields line) in
-    rw g.values (long_by (given (first_no (take 3 (line_questions line)))) sizes (with_numbers capped word (fields line) sizes) (gathered_length capped word (first_number word) (field_count word (letter_in (fields line))) (fields line) sizes))
+    rw g.values (long_by (is_some (first_no (take 3 (line_questions line)))) sizes (with_numbers capped word (fields line) sizes) (gathered_length capped word (first_number word) (field_count word (letter_in (fields line))) (fields line) sizes))
 
 -- the number of the question that is answered no
-numbered : (n q : ℕ) → ◌≡◌ {A = Option ℕ} (some n) (some q) → number_of (refusal_of n) ≡ n → ◌≡◌ {A = Option ℕ} (some n) (some (number_of (refusal_of q)))
+numbered : (n q : ℕ) → ◌≡◌ {A = Option ℕ} (Some n) (Some q) → number_of (refusal_of n) ≡ n → ◌≡◌ {A = Option ℕ} (Some n) (Some (number_of (refusal_of q)))
 numbered n q e back = let same : q ≡ n = cc in rw (same, back)
 
 no_table : (a b c d e f : Bool) (q : ℕ)
     → let questions : List (ℕ × Bool) = (1, a) ∷ (2, b) ∷ (3, c) ∷ (4, d) ∷ (5, e) ∷ (6, f) ∷ [] in
-    first_no (take 5 questions) ≡ some q → first_no questions ≡ some (number_of (refusal_of q))
+    first_no (take 5 questions) ≡ Some q → first_no questions ≡ Some (number_of (refusal_of q))
 unfolding refusal_of
 no_table false b c d e f q h = numbered 1 q h refl
 no_table true false c d e f q h = numbered 2 q h refl
 no_table true true false d e f q h = numbered 3 q h refl
 no_table true true true false e f q h = numbered 4 q h refl
 no_table true true true true false f q h = numbered 5 q h refl
-no_table true true true true true f q h = absurd (some≢none q (sym h))
+no_table true true true true true f q h = absurd (Some≢None q (sym h))
 
 -- one of questions 1 to 5 answered no, or none
 module _ (line : List ℕ) where
-  refused : (q : ℕ) → first_no (take 5 (line_questions line)) ≡ some q → first_no (line_questions line) ≡ some (number_of (refusal_of q))
+  refused : (q : ℕ) → first_no (take 5 (line_questions line)) ≡ Some q → first_no (line_questions line) ≡ Some (number_of (refusal_of q))
   unfolding line_questions
   refused q h =
       let word = record_of (fields line) in
       let call = call_from word (fields line) in
       no_table (is_short line) (has_word word) (has_letter call) (has_fields word (fields line)) (is_well_written word (fields line)) (is_within_limits call) q h
 
-  module _ (passed : first_no (take 5 (line_questions line)) ≡ none) where
+  module _ (passed : first_no (take 5 (line_questions line)) ≡ None) where
     asks : (call : Call) → Alike call (model.call_of line) → Asks line call
     unfolding line_questions call_questions
     asks call a =
@@ -160,7 +158,7 @@ module _ (line : List ℕ) where
           same = λ e. a.same (all_yes (line_questions line) e).1.1.1.1.1.0;
         }
 
-    says_word : (word : Word) → word ≡ record_of (fields line) → has_word word ≡ true → (minus : List Bool) (sizes : List ℕ) → Placed word (fields line) minus sizes → Says (asked_of word) (letter_in (fields line)) minus sizes line
+    says_word : (word : Word) → word ≡ record_of (fields line) → has_word word ≡ true → (minus : List Bool) (sizes : List ℕ) → Placed word (fields line) minus sizes → Says (asking word (fields line)) minus sizes line
     says_word LINE e h minus sizes p = asks (declare (letter_in (fields line)) (get_or sizes 2 0)) (rw (← e) (line_alike (fields line) minus sizes p))
     says_word RATE e h minus sizes p = asks (set_rate (get_or sizes 1 0) (take 60 (drop 2 sizes))) (rw (← e) (rate_alike (fields line) minus sizes p))
     says_word RATE_ALONE e h minus sizes p = asks (set_rate_from_register (get_or sizes 1 0)) (rw (← e) (rate_alone_alike (fields line) minus sizes p))
@@ -171,7 +169,7 @@ module _ (line : List ℕ) where
     says_word OTHER e h minus sizes p = absurd (false≢true h)
 
     module _ (minus : List Bool) (sizes : List ℕ) (lm : length minus ≡ 62) (ls : length sizes ≡ 62) where
-      passed_says : let word = record_of (fields line) in Says (asked_of word) (letter_in (fields line)) (left_in has_minus line minus) (left_in capped line sizes) line
+      passed_says : let word = record_of (fields line) in Says (asking word (fields line)) (left_in has_minus line minus) (left_in capped line sizes) line
       unfolding line_questions
       passed_says =
           let fs = fields line in
@@ -190,10 +188,10 @@ module _ (line : List ℕ) where
 
 -- of any line: what the request and the lists say
 module _ (line : List ℕ) (minus : List Bool) (sizes : List ℕ) (lm : length minus ≡ 62) (ls : length sizes ≡ 62) where
-  said_by : (o : Option ℕ) → first_no (take 5 (line_questions line)) ≡ o → Says (answered o (fields line)).asked (answered o (fields line)).letter (left_in has_minus line minus) (left_in capped line sizes) line
-  said_by none e = passed_says line e minus sizes lm ls
-  said_by (some q) e = refused line q e
+  said_by : (o : Option ℕ) → first_no (take 5 (line_questions line)) ≡ o → Says (answered o (fields line)) (left_in has_minus line minus) (left_in capped line sizes) line
+  said_by None e = passed_says line e minus sizes lm ls
+  said_by (Some q) e = refused line q e
 
-  pub said : (r : Request) (ms : List Bool) (ns : List ℕ) → Gives (read_of line minus sizes) r ms ns → (asked : Asked) → r.asked ≡ asked → Says asked r.letter ms ns line
+  pub said : (r : Result Request Refusal) (ms : List Bool) (ns : List ℕ) → Gives (read_of line minus sizes) r ms ns → Says r ms ns line
   unfolding read_of
-  said r ms ns g asked e = rw (← e, g.request, g.signs, g.values) (said_by (first_no (take 5 (line_questions line))) refl)
+  said r ms ns g = rw (g.request, g.signs, g.values) (said_by (first_no (take 5 (line_questions line))) refl)

@@ -3,4 +3,3 @@
 
 mod gather;
 pub mod read;
-pub mod request;

@@ -5,29 +5,22 @@ ghost use Rattle.std.specs.Prelude.{◌≡◌};
 ghost use Rattle.refusal.specs.Number.{number_of};
 
 // What is wrong where a question is answered no: 1 to 13, in document 01's order, and F-4's 14.
-#[derive(Clone, Copy)]
+#[derive(Clone, Copy, Debug, PartialEq, Eq)]
 pub enum Refusal {
-    TooLong,
-    UnknownWord,
-    UncoveredLetter,
-    WrongCount,
-    BadlyWritten,
-    OutsideLimits,
-    AlreadyGiven,
-    NotDeclared,
-    NoRate,
-    OutOfTurn,
-    IncurredTooSmall,
-    RatioFalls,
-    NoPattern,
-    NoMonth,
-}
-
-// What questions come to: none is answered no, or what is wrong at the first that is.
-#[derive(Clone, Copy)]
-pub enum Verdict {
-    Fine,
-    Refused(Refusal),
+    TooLong = 1,
+    UnknownWord = 2,
+    UncoveredLetter = 3,
+    WrongCount = 4,
+    BadlyWritten = 5,
+    OutsideLimits = 6,
+    AlreadyGiven = 7,
+    NotDeclared = 8,
+    NoRate = 9,
+    OutOfTurn = 10,
+    IncurredTooSmall = 11,
+    RatioFalls = 12,
+    NoPattern = 13,
+    NoMonth = 14,
 }
 
 impl Refusal {
@@ -35,21 +28,6 @@ impl Refusal {
     pub fn number(self) -> u64
         ensures { result ≡ number_of self }
     {
-        match self {
-            Refusal::TooLong => 1,
-            Refusal::UnknownWord => 2,
-            Refusal::UncoveredLetter => 3,
-            Refusal::WrongCount => 4,
-            Refusal::BadlyWritten => 5,
-            Refusal::OutsideLimits => 6,
-            Refusal::AlreadyGiven => 7,
-            Refusal::NotDeclared => 8,
-            Refusal::NoRate => 9,
-            Refusal::OutOfTurn => 10,
-            Refusal::IncurredTooSmall => 11,
-            Refusal::RatioFalls => 12,
-            Refusal::NoPattern => 13,
-            Refusal::NoMonth => 14,
-        }
+        self as u64
     }
 }

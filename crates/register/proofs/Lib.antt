@@ -1,2 +1,1 @@
-pub mod MonthRead
 pub mod Sixties

@@ -7,7 +7,8 @@ use Prim.Native.Nat.{ℕ, zero, suc, ◌+◌, ◌≤◌, ◌<◌}
 use native.Mathlib.Omega.{arith}
 use borrow.Author.Tests.{le-leb}
 use lib.ListN.{length, take, get_or}
-use Rattle.model.specs.Basics.{all, sum}
+use Rattle.model.specs.Basics.{sum}
+use Rattle.std.specs.List.{list_all}
 use Rattle.model.specs.Book.{Line}
 use Rattle.model.specs.Row.{Row}
 use Rattle.model.specs.YearEnd as year_end_lem
@@ -20,7 +21,7 @@ pub record RowFactors (letter : ℕ) (line : Line) (year : ℕ) (factors : List 
   pub same : (k : ℕ) → k < n → get_or factors k 0 ≡ row_factor letter line year k
   pub limit : (k : ℕ) → k < n → row_factor letter line year k ≤ 10000000000
 
-all_factors : (factors : List ℕ) (n : ℕ) → ((k : ℕ) → k < n → get_or factors k 0 ≤ 10000000000) → all is_factor (take n factors) ≡ true
+all_factors : (factors : List ℕ) (n : ℕ) → ((k : ℕ) → k < n → get_or factors k 0 ≤ 10000000000) → list_all is_factor (take n factors) ≡ true
 all_factors factors zero h = refl
 all_factors [] (suc n) h = refl
 all_factors (factor ∷ factors) (suc n) h = rw (le-leb factor 10000000000 (h 0 (omega arith)), all_factors factors n (λ k lt. h (suc k) (omega arith)))
@@ -35,5 +36,5 @@ module _ (letter : ℕ) (line : Line) (year : ℕ) (factors : List ℕ) where
   unfolding closing
   closing_of_line rows f = ap sum (discounted_rows_lem (length rows) f 0 rows (omega arith))
 
-  pub factors_within : (n : ℕ) → RowFactors letter line year factors n → all is_factor (take n factors) ≡ true
+  pub factors_within : (n : ℕ) → RowFactors letter line year factors n → list_all is_factor (take n factors) ≡ true
   factors_within n f = all_factors factors n (λ k lt. omega (arith, f.same k lt, f.limit k lt))

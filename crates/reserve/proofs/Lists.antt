@@ -8,7 +8,8 @@ use native.Mathlib.Omega.{arith}
 use borrow.Author.Tests.{leb-true}
 use lib.ListN.{length, get_or}
 use lib.IntN.{ℤ, nat_abs}
-use Rattle.model.specs.Basics.{all, sum}
+use Rattle.model.specs.Basics.{sum}
+use Rattle.std.specs.List.{list_all}
 use Rattle.model.specs.Call.{close_year}
 use Rattle.model.specs.Kind.{is_amount, is_paid}
 use Rattle.model.specs.Letter.{ages}
@@ -24,25 +25,25 @@ use Rattle.reserve.specs.Lists.{PaidList, ReserveLists, paid_sum, stated_rows}
 use Rattle.reserve.proofs.Values.{at_most_unpaid}
 
 -- ten thousand million for each row
-paid_size : (paid : List ℤ) → all is_paid paid ≡ true → nat_abs (paid_sum paid) ≤ 10000000000 * length paid
+paid_size : (paid : List ℤ) → list_all is_paid paid ≡ true → nat_abs (paid_sum paid) ≤ 10000000000 * length paid
 paid_size [] e = omega arith
 paid_size (v ∷ paid) e =
     omega (
       arith,
       sum_size v (paid_sum paid),
-      leb-true (nat_abs v) 10000000000 (and_left (is_paid v) (all is_paid paid) e),
-      paid_size paid (and_right (is_paid v) (all is_paid paid) e),
+      leb-true (nat_abs v) 10000000000 (and_left (is_paid v) (list_all is_paid paid) e),
+      paid_size paid (and_right (is_paid v) (list_all is_paid paid) e),
     )
 
-closing_size : (factors : List ℕ) (k : ℕ) (unpaid tabular : List ℕ) → all is_amount unpaid ≡ true → sum (discounted_rows factors k (stated_rows unpaid tabular)) ≤ 10000000000 * length unpaid
+closing_size : (factors : List ℕ) (k : ℕ) (unpaid tabular : List ℕ) → list_all is_amount unpaid ≡ true → sum (discounted_rows factors k (stated_rows unpaid tabular)) ≤ 10000000000 * length unpaid
 closing_size factors k [] tabular e = omega arith
 closing_size factors k (u ∷ unpaid) [] e = omega arith
 closing_size factors k (u ∷ unpaid) (t ∷ tabular) e =
     omega (
       arith,
       at_most_unpaid (stated u t) (published (get_or factors k 0)),
-      leb-true u 10000000000 (and_left (is_amount u) (all is_amount unpaid) e),
-      closing_size factors (suc k) unpaid tabular (and_right (is_amount u) (all is_amount unpaid) e),
+      leb-true u 10000000000 (and_left (is_amount u) (list_all is_amount unpaid) e),
+      closing_size factors (suc k) unpaid tabular (and_right (is_amount u) (list_all is_amount unpaid) e),
     )
 
 -- the same rows, but for what was paid
@@ -70,10 +71,10 @@ module _ (letter : ℕ) (paid : List ℤ) (unpaid tabular : List ℕ) (lengths :
         enough = omega (arith, lengths_are, ages_small letter);
       }
 
-  pub closing_small : all is_amount unpaid ≡ true → (factors : List ℕ) → closing_at factors (stated_rows unpaid tabular) ≤ 110000000000
+  pub closing_small : list_all is_amount unpaid ≡ true → (factors : List ℕ) → closing_at factors (stated_rows unpaid tabular) ≤ 110000000000
   closing_small limits factors = omega (arith, closing_size factors 0 unpaid tabular limits, lengths_are, ages_small letter)
 
-  module _ (limits : all is_paid paid ≡ true) where
+  module _ (limits : list_all is_paid paid ≡ true) where
     pub paid_list : PaidList paid
     paid_list = record { few = omega (arith, lengths_are, ages_small letter); limits = limits }
 

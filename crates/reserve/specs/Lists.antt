@@ -1,13 +1,14 @@
 -- The lists of a YEAR, as the helpers of a year end ask for them.
 -- Assumes nothing: these are definitions.
 use Rattle.std.specs.Prelude.{true, List, [], ◌∷◌, ◌≡◌, ℕ, ◌≤◌, length, ℤ}
-use Rattle.model.specs.Basics.{all, total}
+use Rattle.model.specs.Basics.{total}
+use Rattle.std.specs.List.{list_all}
 use Rattle.model.specs.Kind.{is_paid}
 use Rattle.model.specs.Row.{Row, stated}
 
 pub record PaidList (paid : List ℤ) : Type 0 where
   pub few : length paid ≤ 11
-  pub limits : all is_paid paid ≡ true
+  pub limits : list_all is_paid paid ≡ true
 
 pub record ReserveLists (unpaid tabular factors : List ℕ) : Type 0 where
   pub few : length unpaid ≤ 11

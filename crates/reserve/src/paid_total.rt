@@ -7,10 +7,8 @@ pub fn paid_total(paid: &[i64]) -> i64
     ensures { result ≡ paid_sum paid.now }
 {
     let mut total: i64 = 0;
-    let mut i = 0;
-    while i < paid.len() {
-        total += paid[i];
-        i += 1;
+    for &payment in paid {
+        total += payment;
     }
     total
 }

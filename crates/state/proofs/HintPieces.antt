@@ -1,5 +1,6 @@
 -- A hint written: the lines, the slots, the totals and the register are as they were.
 -- Assumes nothing.
+use Rattle.std.specs.Prelude.{Option}
 use mathlib.Core.Bool.{true}
 use mathlib.Core.List.{List, [], ◌∷◌}
 use mathlib.Core.Path.{◌≡◌}
@@ -29,7 +30,7 @@ module _ (store : List ℕ) (year hint : ℕ) (y : is_year year ≡ true) (n : l
   pub slots_same : (letter accident : ℕ) → slot_at later letter accident ≡ slot_at store letter accident
   slots_same letter accident = rw y (slots_before store (hint ∷ []) (hint_start year) room (omega arith) letter accident)
 
-  pub totals_same : (letter closed : ℕ) → totals_at later letter closed ≡ totals_at store letter closed
+  pub totals_same : (letter : ℕ) (closed : Option ℕ) → totals_at later letter closed ≡ totals_at store letter closed
   totals_same letter closed = rw y (totals_past store (hint ∷ []) (hint_start year) room (omega (arith, year_place year y)) letter closed)
 
   pub register_same : register_of later ≡ register_of store

@@ -1,4 +1,3 @@
-pub mod CellLimits
 pub mod ClosedYears
 pub mod EmptyBook
 pub mod FactorLimits

@@ -1,9 +1,8 @@
 -- A month of the register written: it is read back, every other month is as it was, and so are the lines, the slots and the totals.
 -- Assumes nothing.
-use Rattle.std.specs.Prelude.{if◌then◌else◌}
+use Rattle.std.specs.Prelude.{Option, if◌then◌else◌, Option, None, Some}
 use mathlib.Core.Bool.{Bool, true, false}
 use mathlib.Core.List.{List, [], ◌∷◌}
-use mathlib.Core.Option.{Option, none, some}
 use mathlib.Core.Path.{◌≡◌, refl, fun_ext}
 use Prim.Native.Nat.{ℕ, ◌+◌, ◌-◌, ◌≤◌, ◌<◌}
 use native.Mathlib.Omega.{arith}
@@ -11,7 +10,8 @@ use borrow.Author.Tests.{eqb-false, leb-true, le-leb, ne_eqb}
 use lib.Dec.{eqb, leb}
 use lib.ListN.{length, get_or, set}
 use lib.Seq.{get_or-set_same, get_or-set_other}
-use Rattle.model.specs.Basics.{put, all}
+use Rattle.model.specs.Basics.{put}
+use Rattle.std.specs.List.{list_all}
 use Rattle.model.specs.Kind.{is_rate, is_register_year, is_month}
 use Rattle.model.specs.History.{listed}
 use Rattle.model.proofs.Lists.{and_left, and_right, put_all}
@@ -52,18 +52,18 @@ same_month year month y m d e s =
     (omega (arith, a.first_year, a.first_month, a.last_month, b.first_year, b.first_month, b.last_month), omega (arith, a.first_year, a.first_month, a.last_month, b.first_year, b.first_month, b.last_month))
 
 -- whatever a cell holds is a rate or none
-either : (t : Bool) (a b : Option ℕ) → all is_rate (listed a) ≡ true → all is_rate (listed b) ≡ true → all is_rate (listed (if t then a else b)) ≡ true
+either : (t : Bool) (a b : Option ℕ) → list_all is_rate (listed a) ≡ true → list_all is_rate (listed b) ≡ true → list_all is_rate (listed (if t then a else b)) ≡ true
 either true a b ea eb = ea
 either false a b ea eb = eb
 
-rate_by : (n : ℕ) (t : Bool) → is_rate n ≡ t → all is_rate (listed (if t then some n else none)) ≡ true
+rate_by : (n : ℕ) (t : Bool) → is_rate n ≡ t → list_all is_rate (listed (if t then Some n else None)) ≡ true
 rate_by n true e = rw e
 rate_by n false e = refl
 
-cell_within : (cell : ℕ) → all is_rate (listed (month_in cell)) ≡ true
+cell_within : (cell : ℕ) → list_all is_rate (listed (month_in cell)) ≡ true
 cell_within cell = either (eqb cell 0) _ _ refl (rate_by (cell - 1) (is_rate (cell - 1)) refl)
 
-pub register_within : (store : List ℕ) (year month : ℕ) → all is_rate (listed (register_of store year month)) ≡ true
+pub register_within : (store : List ℕ) (year month : ℕ) → list_all is_rate (listed (register_of store year month)) ≡ true
 unfolding register_of
 register_within store year month = either (is_date year month) _ _ (cell_within (get_or store (month_start year month) 0)) refl
 
@@ -77,7 +77,7 @@ module _ (store : List ℕ) (year month rate : ℕ) (d : is_date year month ≡ 
   room : at + 1 ≤ length store
   room = omega (arith, month_inside year month d)
 
-  kept : month_in (rate + 1) ≡ some rate
+  kept : month_in (rate + 1) ≡ Some rate
   kept =
       let back : rate + 1 - 1 ≡ rate = omega arith in
       let more : (rate + 1 ≡ 0 → ⊥) = λ e. omega arith in
@@ -86,7 +86,7 @@ module _ (store : List ℕ) (year month rate : ℕ) (d : is_date year month ≡ 
   as_set : later ≡ set store at (rate + 1)
   as_set = rw (d, one_cell store at (rate + 1) (omega (arith, room)))
 
-  here : register_of later year month ≡ some rate
+  here : register_of later year month ≡ Some rate
   unfolding register_of
   here = rw (as_set, d, get_or-set_same store at (rate + 1) 0 (omega (arith, room))) kept
 
@@ -99,10 +99,10 @@ module _ (store : List ℕ) (year month rate : ℕ) (d : is_date year month ≡ 
   apart y m differ = apart_by y m differ (is_date y m) refl
 
   -- the view's register after a MIDT
-  pub register_put : register_of later ≡ put (register_of store) year (put (register_of store year) month (some rate))
+  pub register_put : register_of later ≡ put (register_of store) year (put (register_of store year) month (Some rate))
   register_put =
-      fun_ext (put_all (λ y months. register_of later y ≡ months) (register_of store) year (put (register_of store year) month (some rate))
-      (fun_ext (put_all (λ m o. register_of later year m ≡ o) (register_of store year) month (some rate) here (λ m f. apart year m (λ s. eqb-false m month f s.1))))
+      fun_ext (put_all (λ y months. register_of later y ≡ months) (register_of store) year (put (register_of store year) month (Some rate))
+      (fun_ext (put_all (λ m o. register_of later year m ≡ o) (register_of store year) month (Some rate) here (λ m f. apart year m (λ s. eqb-false m month f s.1))))
       (λ y f. fun_ext (λ m. apart y m (λ s. eqb-false y year f s.0))))
 
   -- the other regions stand before it
@@ -112,5 +112,5 @@ module _ (store : List ℕ) (year month rate : ℕ) (d : is_date year month ≡ 
   pub slots_same : (letter accident : ℕ) → slot_at later letter accident ≡ slot_at store letter accident
   slots_same letter accident = rw d (slots_before store ((rate + 1) ∷ []) at room (omega arith) letter accident)
 
-  pub totals_same : (letter closed : ℕ) → totals_at later letter closed ≡ totals_at store letter closed
+  pub totals_same : (letter : ℕ) (closed : Option ℕ) → totals_at later letter closed ≡ totals_at store letter closed
   totals_same letter closed = rw d (totals_before store ((rate + 1) ∷ []) at room (omega arith) letter closed)

@@ -7,8 +7,9 @@ use Prim.Native.Nat.{ℕ, suc, ◌+◌, ◌-◌, ◌≤◌, ◌<◌}
 use native.Mathlib.Omega.{arith}
 use native.Mathlib.Nat.{eq-zero-or-pos}
 use native.Mathlib.Numerals.{add-one}
-use lib.ListN.{length, take, drop, get_or, set, length-append, length-drop, length-set, take-append-drop}
-use lib.Seq.{length-take-le, take-length, take_at, drop_at, take-append-le, drop-append-le, drop-drop, drop-cons, get_or-take, get_or-drop, set_at, set_split, paste, paste-zero, paste-suc}
+use borrow.Rule.Slice.PartMut.{put_mid}
+use lib.ListN.{length, take, drop, get_or, set, length-append, length-drop, take-append-drop}
+use lib.Seq.{length-take-le, take_at, drop_at, take-append-le, drop-append-le, drop-drop, drop-cons, get_or-take, get_or-drop, set_at, set_split}
 use Rattle.state.specs.Store.{piece, written}
 
 -- a cell of a piece, read where it lies
@@ -86,28 +87,9 @@ one_more_cell store cells at v lt =
     )
     (simp append_assoc)
 
--- the loop that writes the cells: those before place i are written
-pub record Writing (store : List ℕ) (at : ℕ) (cells later : List ℕ) (i : ℕ) : Type 0 where
-  pub room : at + length cells ≤ length store
-  pub inside : i ≤ length cells
-  pub same_length : length later ≡ length store
-  pub copied : later ≡ paste store at cells i
-
-pub write_start : (store : List ℕ) (at : ℕ) (cells : List ℕ) → at + length cells ≤ length store → Writing store at cells store 0
-write_start store at cells room = record { room = room; inside = omega arith; same_length = refl; copied = paste-zero store at cells }
-
-module _ (store : List ℕ) (at : ℕ) (cells later : List ℕ) (i : ℕ) (c : Writing store at cells later i) where
-  pub write_on : i < length cells → Writing store at cells (set later (at + i) (get_or cells i 0)) (i + 1)
-  write_on lt =
-      record {
-        room = c.room;
-        inside = omega arith;
-        same_length = rw length-set c.same_length;
-        copied = rw (c.copied, add-one i) (paste-suc store at cells i 0 (omega (arith, c.room)) lt);
-      }
-
-  pub write_end : length cells ≤ i → later ≡ written store at cells
-  unfolding written
-  write_end le =
-      let all : i ≡ length cells = omega (arith, c.inside) in
-      rw (c.copied, all, take-length cells) (append_assoc (take at store) cells (drop (at + length cells) store))
+-- as code copies cells over a part of the store
+pub written_over : (store cells : List ℕ) (at : ℕ) (middle : List ℕ) → middle ≡ cells → put_mid at (at + length cells - at) store middle ≡ written store at cells
+unfolding written
+written_over store cells at middle e =
+    let n : at + length cells - at ≡ length cells = omega arith in
+    rw (e, n, drop-drop (length cells) at store)

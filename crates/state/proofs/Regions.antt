@@ -1,5 +1,6 @@
 -- Cells written into one region of the store leave the regions before and after it as they were.
 -- Assumes nothing.
+use Rattle.std.specs.Prelude.{Option}
 use mathlib.Core.Bool.{Bool, true, false}
 use mathlib.Core.List.{List}
 use mathlib.Core.Path.{◌≡◌, refl, ap, fun_ext}
@@ -35,15 +36,15 @@ module _ (store cells : List ℕ) (at : ℕ) (room : at + length cells ≤ lengt
   pub slots_before : hints_start ≤ at → (letter year : ℕ) → slot_at later letter year ≡ slot_at store letter year
   slots_before le letter year = slot_before le letter year (covered letter) refl
 
-  total_by : (letter closed : ℕ) → (covered letter ≡ true → piece later (total_start letter) 3 ≡ piece store (total_start letter) 3) → (t : Bool) → covered letter ≡ t → totals_at later letter closed ≡ totals_at store letter closed
+  total_by : (letter : ℕ) (closed : Option ℕ) → (covered letter ≡ true → piece later (total_start letter) 3 ≡ piece store (total_start letter) 3) → (t : Bool) → covered letter ≡ t → totals_at later letter closed ≡ totals_at store letter closed
   unfolding totals_at
   total_by letter closed same true c = rw (c, same c)
   total_by letter closed same false c = rw c
 
-  pub totals_before : months_start ≤ at → (letter closed : ℕ) → totals_at later letter closed ≡ totals_at store letter closed
+  pub totals_before : months_start ≤ at → (letter : ℕ) (closed : Option ℕ) → totals_at later letter closed ≡ totals_at store letter closed
   totals_before le letter closed = total_by letter closed (λ c. pieces.before store cells at room (total_start letter) 3 (omega (arith, covered_place letter c, le))) (covered letter) refl
 
-  pub totals_past : at + length cells ≤ totals_start → (letter closed : ℕ) → totals_at later letter closed ≡ totals_at store letter closed
+  pub totals_past : at + length cells ≤ totals_start → (letter : ℕ) (closed : Option ℕ) → totals_at later letter closed ≡ totals_at store letter closed
   totals_past le letter closed = total_by letter closed (λ c. pieces.after store cells at room (total_start letter) 3 (omega (arith, le))) (covered letter) refl
 
   cell_past : (k : ℕ) → at + length cells ≤ k → get_or later k 0 ≡ get_or store k 0

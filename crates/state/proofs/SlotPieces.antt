@@ -1,5 +1,6 @@
 -- A slot written: it holds its cells, every other slot is as it was, and so are the lines, the totals and the register.
 -- Assumes nothing.
+use Rattle.std.specs.Prelude.{Option}
 use mathlib.Core.Bool.{Bool, true, false}
 use mathlib.Core.List.{List, [], ◌∷◌, ◌++◌}
 use mathlib.Core.Logic.{⊎_elim}
@@ -44,9 +45,6 @@ module _ (store : List ℕ) (letter year : ℕ) (factors : List ℕ) (composite 
       → set middle (at + 10) composite ≡ with_slot_of store letter year (factors ++ (composite ∷ []))
   slot_kept c at ea le n l middle em = rw (← et, c, ← ea, em, ← l) (one_more_cell store factors at composite (omega arith))
 
-  pub slot_left : t ≡ false → store ≡ with_slot_of store letter year (factors ++ (composite ∷ []))
-  slot_left c = rw (← et, c)
-
 module _ (store : List ℕ) (letter year : ℕ) (cells : List ℕ) (c : covered letter ≡ true) (n : length store ≡ size) (l : length cells ≡ 11) where
   abbrev later : List ℕ
   later = with_slot_of store letter year cells
@@ -84,7 +82,7 @@ module _ (store : List ℕ) (letter year : ℕ) (cells : List ℕ) (c : covered 
   lines_same other = rw c (lines_before store cells (slot_start letter year) room (omega arith) other)
 
   -- the totals and the register stand past them
-  pub totals_same : (other closed : ℕ) → totals_at later other closed ≡ totals_at store other closed
+  pub totals_same : (other : ℕ) (closed : Option ℕ) → totals_at later other closed ≡ totals_at store other closed
   totals_same other closed = rw c (totals_past store cells (slot_start letter year) room (omega (arith, covered_place letter c)) other closed)
 
   pub register_same : register_of later ≡ register_of store

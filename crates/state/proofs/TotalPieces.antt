@@ -1,5 +1,6 @@
 -- Totals written: they are read back, those of every other letter are as they were, and so are the lines, the slots and the register.
 -- Assumes nothing.
+use Rattle.std.specs.Prelude.{Option, None}
 use mathlib.Core.Bool.{Bool, true, false}
 use mathlib.Core.List.{List, [], ◌∷◌}
 use mathlib.Core.Logic.{⊎_elim}
@@ -12,7 +13,7 @@ use Rattle.model.specs.Letter.{covered}
 use Rattle.line_limits.specs.declared.totals.Totals.{Totals}
 use Rattle.line_limits.specs.Totals.{totals_by, totals_in, total_cells, Within}
 use Rattle.line_limits.proofs.TotalLimits.{read_within, none_within, kept_back_lem, none_closed}
-use Rattle.state.specs.Store.{piece, written, totals_start, size}
+use Rattle.state.specs.Store.{piece, totals_start, size}
 use Rattle.state.specs.Lines.{place_of, line_at}
 use Rattle.state.specs.Patterns.{slot_at}
 use Rattle.state.specs.Totals.{total_start, totals_at, with_totals_of}
@@ -23,24 +24,24 @@ use Rattle.state.proofs.Pieces as pieces
 use Rattle.state.proofs.Pieces.{first_or_later}
 
 -- what is read is within its limits, and zeros where none is closed
-within_by : (store : List ℕ) (letter closed : ℕ) (t : Bool) → covered letter ≡ t → Within closed (totals_at store letter closed)
+within_by : (store : List ℕ) (letter : ℕ) (closed : Option ℕ) (t : Bool) → covered letter ≡ t → Within closed (totals_at store letter closed)
 unfolding totals_at
 within_by store letter closed true c = rw c (read_within closed (piece store (total_start letter) 3))
 within_by store letter closed false c = rw c (none_within closed)
 
-pub totals_within : (store : List ℕ) (letter closed : ℕ) → Within closed (totals_at store letter closed)
+pub totals_within : (store : List ℕ) (letter : ℕ) (closed : Option ℕ) → Within closed (totals_at store letter closed)
 totals_within store letter closed = within_by store letter closed (covered letter) refl
 
-zeros_by : (store : List ℕ) (letter : ℕ) (t : Bool) → covered letter ≡ t → totals_at store letter 0 ≡ totals_by no_totals
+zeros_by : (store : List ℕ) (letter : ℕ) (t : Bool) → covered letter ≡ t → totals_at store letter None ≡ totals_by no_totals
 unfolding totals_at
 zeros_by store letter true c = rw c (none_closed (piece store (total_start letter) 3))
 zeros_by store letter false c = rw c
 
-pub zeros_where_none_closed : (store : List ℕ) (letter : ℕ) → totals_at store letter 0 ≡ totals_by no_totals
+pub zeros_where_none_closed : (store : List ℕ) (letter : ℕ) → totals_at store letter None ≡ totals_by no_totals
 zeros_where_none_closed store letter = zeros_by store letter (covered letter) refl
 
 -- as code reads them: three cells
-module _ (store : List ℕ) (letter closed : ℕ) (t : Bool) (et : t ≡ covered letter) where
+module _ (store : List ℕ) (letter : ℕ) (closed : Option ℕ) (t : Bool) (et : t ≡ covered letter) where
   pub totals_read : t ≡ true → (at : ℕ) → at ≡ total_start letter → (totals : Totals) → totals ≡ totals_in closed (get_or store at 0 ∷ get_or store (at + 1) 0 ∷ get_or store (at + 2) 0 ∷ []) → totals ≡ totals_at store letter closed
   unfolding totals_at totals_in
   totals_read c at ea totals er =
@@ -48,19 +49,7 @@ module _ (store : List ℕ) (letter closed : ℕ) (t : Bool) (et : t ≡ covered
       let first : total_start letter + 0 ≡ total_start letter = omega arith in
       rw (er, ← et, c, cell 0 (omega arith), cell 1 (omega arith), cell 2 (omega arith), first, ← ea)
 
-  pub no_totals_read : t ≡ false → totals_by no_totals ≡ totals_at store letter closed
-  unfolding totals_at
-  no_totals_read c = rw (← et, c)
-
--- as code keeps them
-module _ (store : List ℕ) (letter closed : ℕ) (totals : Totals) (t : Bool) (et : t ≡ covered letter) where
-  pub totals_kept : t ≡ true → (cells : List ℕ) → cells ≡ total_cells closed totals → (at : ℕ) → at ≡ total_start letter → (later : List ℕ) → later ≡ written store at cells → later ≡ with_totals_of store letter closed totals
-  totals_kept c cells ec at ea later el = rw (← et, c, ← ec, ← ea) el
-
-  pub totals_left : t ≡ false → store ≡ with_totals_of store letter closed totals
-  totals_left c = rw (← et, c)
-
-module _ (store : List ℕ) (letter closed : ℕ) (totals : Totals) (c : covered letter ≡ true) (n : length store ≡ size) where
+module _ (store : List ℕ) (letter : ℕ) (closed : Option ℕ) (totals : Totals) (c : covered letter ≡ true) (n : length store ≡ size) where
   abbrev cells : List ℕ
   cells = total_cells closed totals
 
@@ -86,12 +75,12 @@ module _ (store : List ℕ) (letter closed : ℕ) (totals : Totals) (c : covered
       (λ (gt : place_of letter < place). pieces.after store cells (total_start letter) room (totals_start + place * 3) 3 (omega (arith, three)))
       (first_or_later place (place_of letter) differ))
 
-  beside_by : (other year : ℕ) → (other ≡ letter → ⊥) → (t : Bool) → covered other ≡ t → totals_at later other year ≡ totals_at store other year
+  beside_by : (other : ℕ) (year : Option ℕ) → (other ≡ letter → ⊥) → (t : Bool) → covered other ≡ t → totals_at later other year ≡ totals_at store other year
   unfolding totals_at
   beside_by other year differ true o = rw (o, apart (place_of other) (places_differ other letter o c differ))
   beside_by other year differ false o = rw o
 
-  pub totals_beside : (other year : ℕ) → (other ≡ letter → ⊥) → totals_at later other year ≡ totals_at store other year
+  pub totals_beside : (other : ℕ) (year : Option ℕ) → (other ≡ letter → ⊥) → totals_at later other year ≡ totals_at store other year
   totals_beside other year differ = beside_by other year differ (covered other) refl
 
   -- the lines and the slots stand before the totals, and the register past them

@@ -1,25 +1,25 @@
 -- What the view shows after a write.
 -- Assumes nothing.
-use Rattle.std.specs.Prelude.{if◌then◌else◌}
-use mathlib.Core.Bool.{Bool, true, false}
+use Rattle.std.specs.Prelude.{Option, None, Some}
+use mathlib.Core.Bool.{true}
 use mathlib.Core.List.{List}
-use mathlib.Core.Option.{none, some}
 use mathlib.Core.Path.{◌≡◌, refl, ap, ◌∙◌, fun_ext}
 use Prim.Native.Nat.{ℕ, zero, suc, ◌-◌, ◌≤◌}
 use borrow.Author.Tests.{eqb-false}
 use lib.ListN.{length}
-use Rattle.model.specs.Basics.{given, put}
+use Rattle.model.specs.Basics.{put}
 use Rattle.model.specs.Kind.{is_year}
 use Rattle.model.specs.Letter.{covered}
 use Rattle.model.proofs.Lists.{put_all}
 use Rattle.line_limits.specs.declared.line.Line.{Line}
+use Rattle.line_limits.specs.declared.line.Patterns.{Patterns}
 use Rattle.state.specs.Store.{size}
 use Rattle.state.specs.Hints.{with_hint_of}
 use Rattle.state.specs.Lines.{Limited, line_at, with_line_of}
 use Rattle.state.specs.Months.{is_date, with_month_of}
 use Rattle.state.specs.Patterns.{slot_at, kept_back}
 use Rattle.state.specs.Totals.{totals_at}
-use Rattle.state.specs.View.{line_of, lines_of}
+use Rattle.state.specs.View.{kept_of, line_of, lines_of}
 use Rattle.state.proofs.HintPieces as hint
 use Rattle.state.proofs.MonthPieces as kept_month
 use Rattle.state.proofs.LinePieces.{line_here, lines_beside, slots_same, totals_same}
@@ -30,14 +30,18 @@ unfolding kept_back
 kept_same store later letter h zero year = refl
 kept_same store later letter h (suc n) year = rw (h year, kept_same store later letter h n (year - 1))
 
+pub kept_of_same : (store later : List ℕ) (letter : ℕ) → ((year : ℕ) → slot_at later letter year ≡ slot_at store letter year) → (patterns : Option Patterns) → kept_of later letter patterns ≡ kept_of store letter patterns
+kept_of_same store later letter h None = refl
+kept_of_same store later letter h (Some p) = kept_same store later letter h p.count p.last
+
 -- of a line the view shows its cells, its slots and its totals
 pub record Same (store later : List ℕ) (letter : ℕ) : Type 0 where
   pub slots : (year : ℕ) → slot_at later letter year ≡ slot_at store letter year
-  pub totals : (closed : ℕ) → totals_at later letter closed ≡ totals_at store letter closed
+  pub totals : (closed : Option ℕ) → totals_at later letter closed ≡ totals_at store letter closed
 
 pub line_same : (store later : List ℕ) (letter : ℕ) → Same store later letter → (line : Line) → line_of later letter line ≡ line_of store letter line
 unfolding line_of
-line_same store later letter s line = rw (kept_same store later letter s.slots line.kept line.last, s.totals line.closed)
+line_same store later letter s line = rw (kept_of_same store later letter s.slots line.patterns, s.totals line.closed)
 
 pub shown_same : (store later : List ℕ) (letter : ℕ) → line_at later letter ≡ line_at store letter → Same store later letter → lines_of later letter ≡ lines_of store letter
 unfolding lines_of
@@ -68,15 +72,6 @@ hint_unseen store year factor y n = fun_ext (λ letter. shown_same store (with_h
 pub month_unseen : (store : List ℕ) (year month rate : ℕ) → is_date year month ≡ true → length store ≡ size → rate ≤ 2500 → lines_of (with_month_of store year month rate) ≡ lines_of store
 month_unseen store year month rate d n le =
     fun_ext (λ letter. shown_same store (with_month_of store year month rate) letter (kept_month.lines_same store year month rate d n le letter) (record { slots = kept_month.slots_same store year month rate d n le letter; totals = kept_month.totals_same store year month rate d n le letter }))
-
--- is the line declared?
-declared_by : (t : Bool) (n : ℕ) → given (if t then some n else none) ≡ t
-declared_by true n = refl
-declared_by false n = refl
-
-pub declared_is : (store : List ℕ) (letter : ℕ) (line : Line) → line ≡ line_at store letter → given (lines_of store letter).opening ≡ line.declared
-unfolding lines_of line_of
-declared_is store letter line here = rw (← here) (declared_by line.declared line.opening)
 
 pub line_is : (store : List ℕ) (letter : ℕ) (line : Line) → line ≡ line_at store letter → lines_of store letter ≡ line_of store letter line
 unfolding lines_of

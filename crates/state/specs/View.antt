@@ -1,11 +1,10 @@
 -- The model's book that the code's book and the lent store are. The view is total: every cell is read through its limits, so that every store is some book's.
 -- Assumes nothing: these are definitions.
-use Rattle.std.specs.Prelude.{List, ℕ, replicate, if◌then◌else◌}
-use Rattle.std.proofs.Math.Option.{none, some}
-use Rattle.model.specs.Kind.{is_year}
+use Rattle.std.specs.Prelude.{List, [], ℕ, replicate, Option, None, Some}
 use Rattle.model.specs.Book as model
 use Rattle.state.specs.declared.book.Book.{Book}
 use Rattle.line_limits.specs.declared.line.Line.{Line}
+use Rattle.line_limits.specs.declared.line.Patterns.{Patterns}
 use Rattle.line_limits.specs.Totals.{totals_of}
 use Rattle.state.specs.Store.{size}
 use Rattle.state.specs.Rates.{rates_of}
@@ -14,12 +13,22 @@ use Rattle.state.specs.Lines.{line_at}
 use Rattle.state.specs.Patterns.{kept_back}
 use Rattle.state.specs.Totals.{totals_at}
 
+-- the model's closed year
+abbrev pub closed_of : Option ℕ → ℕ → Option model.Closed
+closed_of None closing = None
+closed_of (Some year) closing = Some (record { year = year; closing = closing })
+
+-- the kept patterns, by their slots
+abbrev pub kept_of : List ℕ → ℕ → Option Patterns → List model.Kept
+kept_of store letter None = []
+kept_of store letter (Some patterns) = kept_back store letter patterns.count patterns.last
+
 unfoldable pub line_of : List ℕ → ℕ → Line → model.Line
 line_of store letter line =
     record {
-      opening = if line.declared then some line.opening else none;
-      closed = if is_year line.closed then some (record { year = line.closed; closing = line.closing }) else none;
-      kept = kept_back store letter line.kept line.last;
+      opening = line.opening;
+      closed = closed_of line.closed line.closing;
+      kept = kept_of store letter line.patterns;
       totals = totals_of (totals_at store letter line.closed);
     }
 

@@ -1,6 +1,5 @@
 // What the book holds by value.
-ghost use Rattle.std.specs.Prelude.{◌≡◌, length};
-ghost use Rattle.state.specs.Store.{size};
+ghost use Rattle.std.specs.Prelude.{◌≡◌};
 ghost use Rattle.state.specs.View.{empty_book, empty_store};
 
 use crate::store::Store;
@@ -20,22 +19,10 @@ pub struct Book {
 pub fn empty(store: &mut Store) -> Book
     ensures { (result ≡ empty_book) × (store.new ≡ empty_store) }
 {
-    clear(store);
+    store.fill(0);
     Book {
         rates: [NO_RATE; 113],
         accepted: 0,
         refused: 0,
-    }
-}
-
-// All cells 0.
-fn clear(store: &mut [u64])
-    requires { length store.old ≡ size }
-    ensures { store.new ≡ empty_store }
-{
-    let mut i = 0;
-    while i < store.len() {
-        store[i] = 0;
-        i += 1;
     }
 }

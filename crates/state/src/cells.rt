@@ -1,22 +1,24 @@
 // Where the cells of a covered letter stand, and cells written.
 ghost use Rattle.std.specs.Prelude.{true, ◌≡◌, ◌+◌, ◌≤◌, ◌<◌, length};
 ghost use Rattle.model.specs.Letter.{covered};
-ghost use Rattle.state.specs.Store.{written};
+ghost use Rattle.state.specs.Store.{written, size};
 ghost use Rattle.state.specs.Lines.{place_of, line_start};
 ghost use Rattle.state.specs.Patterns.{slot_start};
 ghost use Rattle.state.specs.Totals.{total_start};
 
-use crate::store::{LINE_CELLS, SLOT_CELLS, SLOTS_START, TOTAL_CELLS, TOTALS_START};
+use crate::store::{LINE_CELLS, SLOT_CELLS, SLOTS_START, Store, TOTAL_CELLS, TOTALS_START};
 
 // The place of its line: A to L, then R to T.
+#[tactic(auto, using(crate::proofs::Places::from_a, crate::proofs::Places::covered_place))]
 fn place_of(letter: u8) -> usize
     requires { covered letter ≡ true }
     ensures { (result ≡ place_of letter) × (result < 15) }
 {
     if letter <= b'L' {
-        return (letter - b'A') as usize;
+        (letter - b'A') as usize
+    } else {
+        (letter - b'F') as usize
     }
-    (letter - b'F') as usize
 }
 
 // Where its line starts.
@@ -44,13 +46,9 @@ pub fn total_start(letter: u8) -> usize
 }
 
 // The store with cells written from a place on.
-pub fn write(store: &mut [u64], at: usize, cells: &[u64])
-    requires { at + length cells.now ≤ length store.old }
+pub fn write(store: &mut Store, at: usize, cells: &[u64])
+    requires { at + length cells.now ≤ size }
     ensures { store.new ≡ written store.old at cells.now }
 {
-    let mut i = 0;
-    while i < cells.len() {
-        store[at + i] = cells[i];
-        i += 1;
-    }
+    store[at..at + cells.len()].copy_from_slice(cells);
 }

@@ -15,22 +15,9 @@ pub fn given_patterns<W: Write>(output: &mut W) -> io::Result<()> {
 fn each<W: Write>(output: &mut W, letter: u8, ages: usize, cases: &[u64]) -> io::Result<()>
     requires { ages ≤ 10 }
 {
-    let mut at = 0;
-    while at < cases.len() {
-        let first = at + 1;
-        let middle = first + ages;
-        let end = middle + ages;
-        if cases.len() < end {
-            return Ok(());
-        }
-        show(
-            output,
-            letter,
-            cases[at],
-            &cases[first..middle],
-            &cases[middle..end],
-        )?;
-        at = end;
+    for case in cases.chunks_exact(1 + 2 * ages) {
+        let (paid, incurred) = case[1..].split_at(ages);
+        show(output, letter, case[0], paid, incurred)?;
     }
     Ok(())
 }

@@ -1,7 +1,8 @@
-// A line of output: the rate, the verdict's question (0: fine), the kept factors and the composite, parted by spaces. A number that is no rate has its question alone.
+// A line of output: the rate, the question that is answered no (0: none), the kept factors and the composite, or zeros, parted by spaces. A number that is no rate has its question alone.
+use factor::pattern::discount;
 use half_year::half_year;
-use kinds::rate::{MaybeRate, Rate};
-use refusal::{Refusal, Verdict};
+use kinds::rate::Rate;
+use refusal::Refusal;
 use std::io::{self, Write};
 
 pub fn show<W: Write>(
@@ -13,8 +14,8 @@ pub fn show<W: Write>(
 ) -> io::Result<()> {
     write!(output, "{rate}")?;
     match Rate::new(rate) {
-        MaybeRate::Within(given) => show_pattern(output, letter, given, paid, incurred)?,
-        MaybeRate::Outside => field(output, Refusal::OutsideLimits.number())?,
+        Some(given) => show_pattern(output, letter, given, paid, incurred)?,
+        None => field(output, Refusal::OutsideLimits.number())?,
     }
     output.write_all(b"\n")
 }
@@ -27,25 +28,25 @@ fn show_pattern<W: Write>(
     paid: &[u64],
     incurred: &[u64],
 ) -> io::Result<()> {
-    let pattern = factor::pattern::discount(letter, rate, half_year(rate), paid, incurred);
-    let verdict = pattern.verdict;
-    field(output, question(verdict))?;
-    let factors = pattern.factors;
-    let mut i = 0;
-    while i < 10 {
-        field(output, factors[i])?;
-        i += 1;
+    match discount(letter, rate, half_year(rate), paid, incurred) {
+        Ok(pattern) => figures(output, 0, &pattern.factors, pattern.composite),
+        Err(refusal) => figures(output, refusal.number(), &[0; 10], 0),
     }
-    field(output, pattern.composite)
+}
+
+fn figures<W: Write>(
+    output: &mut W,
+    question: u64,
+    factors: &[u64; 10],
+    composite: u64,
+) -> io::Result<()> {
+    field(output, question)?;
+    for factor in factors {
+        field(output, *factor)?;
+    }
+    field(output, composite)
 }
 
 fn field<W: Write>(output: &mut W, n: u64) -> io::Result<()> {
     write!(output, " {n}")
-}
-
-fn question(verdict: Verdict) -> u64 {
-    match verdict {
-        Verdict::Fine => 0,
-        Verdict::Refused(refusal) => refusal.number(),
-    }
 }

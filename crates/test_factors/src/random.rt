@@ -4,20 +4,16 @@ use std::io::{self, Write};
 
 pub fn ten_year_patterns<W: Write>(output: &mut W) -> io::Result<()> {
     let mut state: u64 = 1987;
-    let mut left: u64 = 100;
-    while 0 < left {
+    for _ in 0..100 {
         state = ten_year_pattern(output, state)?;
-        left -= 1;
     }
     Ok(())
 }
 
 pub fn two_year_patterns<W: Write>(output: &mut W) -> io::Result<()> {
     let mut state: u64 = 2099;
-    let mut left: u64 = 50;
-    while 0 < left {
+    for _ in 0..50 {
         state = two_year_pattern(output, state)?;
-        left -= 1;
     }
     Ok(())
 }
@@ -28,15 +24,13 @@ fn ten_year_pattern<W: Write>(output: &mut W, start: u64) -> io::Result<u64> {
     let mut paid = [0u64; 10];
     let mut incurred = [0u64; 10];
     let mut share = 0;
-    let mut i = 0;
-    while i < 10 {
+    for i in 0..10 {
         state = next(state);
         share = further(share, state % 90000);
         state = next(state);
         let amount = 1000000 + state % 9000000;
         incurred[i] = amount;
         paid[i] = part(amount, share);
-        i += 1;
     }
     show(output, b'A', rate, &paid, &incurred)?;
     Ok(state)

@@ -1,14 +1,15 @@
 // A line of output: NO and a question, or a word and all that the record asks, parted by spaces.
 ghost use Rattle.std.specs.Prelude.{◌≤◌};
 
-use kinds::month::is_month;
+use form::request::Request;
+use kinds::month::Month;
 use kinds::rate::Rate;
-use kinds::register_year::is_register_year;
-use kinds::year::is_year;
+use kinds::register_year::RegisterYear;
+use kinds::year::Year;
 use letters::letter::is_ten_year;
 use money::amount::Amount;
-use money::opening::is_opening;
-use record::request::Asked;
+use money::opening::Opening;
+use record::read::read;
 use refusal::Refusal;
 use std::io::{self, Write};
 
@@ -16,18 +17,15 @@ use std::io::{self, Write};
 pub fn show<W: Write>(output: &mut W, line: &[u8]) -> io::Result<()> {
     let mut minus = [false; 62];
     let mut sizes = [0u64; 62];
-    let request = record::read::read(line, &mut minus, &mut sizes);
-    let letter = request.letter;
-    let asked = request.asked;
-    match asked {
-        Asked::Refused(refusal) => no(output, refusal)?,
-        Asked::Declare => declare(output, letter, sizes[2])?,
-        Asked::SetRate => set_rate(output, &sizes)?,
-        Asked::AddPattern => add_pattern(output, letter, &minus, &sizes)?,
-        Asked::CloseYear => close_year(output, letter, &minus, &sizes)?,
-        Asked::Totals => word(output, b"SUM", letter)?,
-        Asked::RegisterMonth => register_month(output, &sizes)?,
-        Asked::SetRateFromRegister => set_rate_from_register(output, sizes[1])?,
+    match read(line, &mut minus, &mut sizes) {
+        Err(refusal) => no(output, refusal)?,
+        Ok(Request::Declare(letter)) => declare(output, letter, sizes[2])?,
+        Ok(Request::SetRate) => set_rate(output, &sizes)?,
+        Ok(Request::AddPattern(letter)) => add_pattern(output, letter, &minus, &sizes)?,
+        Ok(Request::CloseYear(letter)) => close_year(output, letter, &minus, &sizes)?,
+        Ok(Request::Totals(letter)) => word(output, b"SUM", letter)?,
+        Ok(Request::RegisterMonth) => register_month(output, &sizes)?,
+        Ok(Request::SetRateFromRegister) => set_rate_from_register(output, sizes[1])?,
     }
     text(output, b"\n")
 }
@@ -38,7 +36,7 @@ fn no<W: Write>(output: &mut W, refusal: Refusal) -> io::Result<()> {
 }
 
 fn declare<W: Write>(output: &mut W, letter: u8, opening: u64) -> io::Result<()> {
-    if is_opening(opening) {
+    if Opening::contains(opening) {
         word(output, b"LINE", letter)?;
         return number(output, opening);
     }
@@ -48,7 +46,7 @@ fn declare<W: Write>(output: &mut W, letter: u8, opening: u64) -> io::Result<()>
 fn set_rate<W: Write>(output: &mut W, sizes: &[u64; 62]) -> io::Result<()> {
     let all = &sizes[..];
     let months = &all[2..62];
-    if is_year(all[1]) {
+    if Year::contains(all[1]) {
         if Rate::all(months) {
             text(output, b"RATE")?;
             number(output, all[1])?;
@@ -60,8 +58,8 @@ fn set_rate<W: Write>(output: &mut W, sizes: &[u64; 62]) -> io::Result<()> {
 
 fn register_month<W: Write>(output: &mut W, sizes: &[u64; 62]) -> io::Result<()> {
     let all = &sizes[..];
-    if is_register_year(all[1]) {
-        if is_month(all[2]) {
+    if RegisterYear::contains(all[1]) {
+        if Month::contains(all[2]) {
             if Rate::all(&all[3..4]) {
                 text(output, b"MIDT")?;
                 return numbers(output, &all[1..4]);
@@ -72,7 +70,7 @@ fn register_month<W: Write>(output: &mut W, sizes: &[u64; 62]) -> io::Result<()>
 }
 
 fn set_rate_from_register<W: Write>(output: &mut W, year: u64) -> io::Result<()> {
-    if is_year(year) {
+    if Year::contains(year) {
         text(output, b"RATE")?;
         return number(output, year);
     }
@@ -123,15 +121,13 @@ fn columns<W: Write>(
 ) -> io::Result<()>
     requires { (1 ≤ count) × (count ≤ 3) × (3 ≤ end) × (end ≤ 62) }
 {
-    if is_year(sizes[2]) {
+    if Year::contains(sizes[2]) {
         if are_amounts(sizes, end) {
             word(output, name, letter)?;
             number(output, sizes[2])?;
-            let mut place = 3;
-            while place < 3 + count {
+            for place in 3..3 + count {
                 column(output, minus, sizes, place, count, end)?;
                 zeros(output, rest)?;
-                place += 1;
             }
             return Ok(());
         }
@@ -158,28 +154,22 @@ fn column<W: Write>(
 ) -> io::Result<()>
     requires { (1 ≤ step) × (step ≤ 3) × (end ≤ 62) }
 {
-    let mut at = place;
-    while at < end {
+    for at in (place..end).step_by(step) {
         signed_number(output, minus[at], sizes[at])?;
-        at += step;
     }
     Ok(())
 }
 
 fn zeros<W: Write>(output: &mut W, n: usize) -> io::Result<()> {
-    let mut i = 0;
-    while i < n {
+    for _ in 0..n {
         number(output, 0)?;
-        i += 1;
     }
     Ok(())
 }
 
 fn numbers<W: Write>(output: &mut W, list: &[u64]) -> io::Result<()> {
-    let mut i = 0;
-    while i < list.len() {
-        number(output, list[i])?;
-        i += 1;
+    for n in list {
+        number(output, *n)?;
     }
     Ok(())
 }

@@ -1,10 +1,9 @@
 -- SUM.
 -- Assumes nothing.
-use Rattle.std.specs.Prelude.{if◌then◌else◌}
+use Rattle.std.specs.Prelude.{if◌then◌else◌, None, Some, is_some}
 use mathlib.Core.Bool.{Bool, true, false}
 use mathlib.Core.List.{List}
 use mathlib.Core.Path.{◌≡◌, refl, sym, ◌∙◌}
-use mathlib.Core.Option.{none, some}
 use Prim.Native.Nat.{ℕ}
 use lib.IntN.{ℤ}
 use Rattle.model.specs.Letter.{covered}
@@ -18,7 +17,7 @@ use Rattle.state.specs.declared.book.Book.{Book}
 use Rattle.state.specs.Lines.{line_at}
 use Rattle.state.specs.Totals.{totals_at}
 use Rattle.state.specs.View.{line_of, view}
-use Rattle.state.proofs.Views.{declared_is, line_is}
+use Rattle.state.proofs.Views.{line_is}
 use Rattle.ledger.specs.declared.answer.Answer.TheVariants as answer
 use Rattle.ledger.specs.declared.answer.Outcome.{Outcome}
 use Rattle.ledger.specs.Answer.{refused_of, accepted_of}
@@ -31,22 +30,23 @@ letter_sound letter lettered el l = record { letter = sym el ∙ l; lengths = re
 
 -- question 8
 module _ (book : Book) (letter : ℕ) (store : List ℕ) (line : Line) (here : line ≡ line_at store letter) (r : Outcome) where
-  first_is : (t : Bool) → line.declared ≡ t → first_no (book_questions (view book store) (totals letter)) ≡ (if t then none else some 8)
-  unfolding book_questions
-  first_is true d = rw (declared_is store letter line here, d)
-  first_is false d = rw (declared_is store letter line here, d)
+  first_is : (t : Bool) → is_some line.opening ≡ t → first_no (book_questions (view book store) (totals letter)) ≡ (if t then None else Some 8)
+  unfolding book_questions line_of
+  first_is true e = rw (line_is store letter line here, e)
+  first_is false e = rw (line_is store letter line here, e)
 
-  pub undeclared : line.declared ≡ false → r ≡ refused_of book refusal.NotDeclared → Settled book (totals letter) store r store
-  undeclared d er = refused book refusal.NotDeclared (first_no (book_questions (view book store) (totals letter))) (totals letter) store r (first_is false d) er
+  module _ (given : Bool) (eg : given ≡ is_some line.opening) where
+    pub undeclared : given ≡ false → r ≡ refused_of book refusal.NotDeclared → Settled book (totals letter) store r store
+    undeclared d er = refused book refusal.NotDeclared (first_no (book_questions (view book store) (totals letter))) (totals letter) store r (first_is false (sym eg ∙ d)) er
 
-  -- the figures, as code has them
-  pub summed : line.declared ≡ true → (figures : Totals) → figures ≡ totals_at store letter line.closed → (p : ℤ) → p ≡ figures.paid → (v : ℤ) → v ≡ figures.losses
-      → r ≡ accepted_of book (answer.Sum letter figures.years p v) → Settled book (totals letter) store r store
-  unfolding accept book_settled store_settled line_of
-  summed d figures ef p ep v ev er =
-      rw (first_is true d, er, ep, ev, ef)
-      record {
-        outcome = rw (line_is store letter line here);
-        own = refl;
-        lent = refl;
-      }
+    -- the figures, as code has them
+    pub summed : given ≡ true → (figures : Totals) → figures ≡ totals_at store letter line.closed → (p : ℤ) → p ≡ figures.paid → (v : ℤ) → v ≡ figures.losses
+        → r ≡ accepted_of book (answer.Sum letter figures.years p v) → Settled book (totals letter) store r store
+    unfolding accept book_settled store_settled line_of
+    summed d figures ef p ep v ev er =
+        rw (first_is true (sym eg ∙ d), er, ep, ev, ef)
+        record {
+          outcome = rw (line_is store letter line here);
+          own = refl;
+          lent = refl;
+        }

@@ -32,7 +32,7 @@ fn ask_declared(book: Book, store: &Store, letter: u8) -> Outcome
     ensures { Settled book (totals letter) store.now result store.now }
 {
     let line = line_of(store, letter);
-    if line.declared {
+    if line.opening.is_some() {
         let totals = totals_of(store, letter, line.closed);
         return accept(
             book,

@@ -2,4 +2,5 @@
 #![tactic(auto)]
 
 pub mod hints;
+mod place;
 pub mod rates;

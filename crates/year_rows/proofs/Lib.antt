@@ -1,2 +1,1 @@
-pub mod Grosses
 pub mod RowCounts

@@ -3,9 +3,6 @@ use Rattle.ledger.proofs.Settling.{goes_on, letter_refused}
 use Rattle.totals.proofs.Summed.{letter_sound}
 use Rattle.totals.proofs.totals.Goals as goal
 
-pub ask_declared-requires : goal.ask_declared-requires
-ask_declared-requires c = search letter_sound
-
 pub returns-then-is_covered : goal.returns-then-is_covered
 returns-then-is_covered c = search (goes_on, letter_sound)
 

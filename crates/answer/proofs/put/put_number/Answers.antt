@@ -1,11 +1,7 @@
--- `answer::put::put_number` meets its contract: the goals that the check leaves. Assumes nothing.
-use native.Mathlib.Omega.{arith}
-use lib.ListN.{length-set}
-use Rattle.answer.proofs.Numbers.{number_put}
+-- `put_number`: the goals that the check leaves.
+use Rattle.std.proofs.Common.{append_assoc, rules}
+use Rattle.answer.proofs.Texts.{decimal_is}
 use Rattle.answer.proofs.put.put_number.Goals as goal
 
-pub put_digits-requires : goal.put_digits-requires
-put_digits-requires c = simp length-set (omega arith)
-
-pub returns : goal.returns
-returns c = search number_put
+pub returns-clause-bytes : goal.returns-clause-bytes
+returns-clause-bytes g c = search (append_assoc, decimal_is, rules)

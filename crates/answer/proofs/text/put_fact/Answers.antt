@@ -1,6 +1,9 @@
--- `answer::text::put_fact` meets its contract: the goals that the check leaves. Assumes nothing.
-use Rattle.answer.proofs.Lines.{fact_put}
+-- `put_fact`: the goals that the check leaves.
+use Rattle.std.proofs.Common.{append_assoc, rules}
+use Rattle.model.specs.Answer.{text}
+use Rattle.answer.proofs.Texts.{fact_line}
 use Rattle.answer.proofs.text.put_fact.Goals as goal
 
 pub returns : goal.returns
-returns c = search fact_put
+unfolding text
+returns g c = search (fact_line, append_assoc, rules)

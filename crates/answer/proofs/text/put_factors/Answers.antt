@@ -1,14 +1,17 @@
--- `answer::text::put_factors` meets its contract: the goals that the check leaves. Assumes nothing.
-use borrow.Author.Rules.{rules}
-use Rattle.answer.proofs.Listing.{list_start, list_on, list_end}
+-- `put_factors`: the goals that the check leaves.
+use Rattle.std.proofs.Common.{rules}
+use Rattle.model.proofs.Ages.{ages_small}
+use Rattle.answer.proofs.Factors.{list_start, list_on, list_end}
 use Rattle.answer.proofs.text.put_factors.Goals as goal
 
-pub loop-i-init : goal.loop-i-init
-loop-i-init c = search list_start
+pub loop-place-init : goal.loop-place-init
+loop-place-init g c = search list_start
 
-pub loop-i-preserved : goal.loop-i-preserved
-loop-i-preserved c =
-    list_on _ _ _ _ _ _ _ _ c.loop-i.invariant _ c.ages-n.ensures c.loop-i-test.true _ _ c.put_factor-next.ensures (search rules)
+pub put_factor-requires : goal.put_factor-requires
+put_factor-requires g c = search (ages_small, rules)
 
-pub returns : goal.returns
-returns c = search list_end
+pub loop-place-preserved : goal.loop-place-preserved
+loop-place-preserved g c = search (list_on, rules)
+
+pub returns-clause-short : goal.returns-clause-short
+returns-clause-short g c = search (ages_small, rules)

@@ -1,9 +1,6 @@
 -- `closings::rows::have_patterns` meets its contract: the goals that the check leaves. Assumes nothing.
-use Rattle.closings.proofs.RowLoops.{ask_start, ask_on, ask_stop, ask_end}
+use Rattle.closings.proofs.RowLoops.{ask_on, ask_stop, ask_end}
 use Rattle.closings.proofs.rows.have_patterns.Goals as goal
-
-pub loop-k-init : goal.loop-k-init
-loop-k-init c = search ask_start
 
 pub returns-then-has_gross : goal.returns-then-has_gross
 returns-then-has_gross c = search ask_stop

@@ -1,9 +1,6 @@
--- `factor::composite::mean_factor`: what its loop keeps, and what falls. Assumes nothing.
+-- `factor::composite::mean_factor`: what its loop keeps. Assumes nothing.
 use Rattle.factor.proofs.Means.{Averaging}
 use Rattle.factor.proofs.composite.mean_factor.Given as goal
 
 abbrev pub invariant-loop-at : goal.invariant-loop-at
 invariant-loop-at l = Averaging l.pay l.half l.rate l.unpaid l.weight l.weighted l.at
-
-abbrev pub decreases-loop-at : goal.decreases-loop-at
-decreases-loop-at l = l.at

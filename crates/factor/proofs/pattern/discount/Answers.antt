@@ -1,12 +1,7 @@
 -- `factor::pattern::discount` meets its contract: the goals that the check leaves. Assumes nothing.
-use Rattle.factor.proofs.Verdicts.{fine_fits, fine_kept, verdict_refused}
+use mathlib.Core.Path.{sym, ◌∙◌}
+use Rattle.factor.proofs.Verdicts.{fine_fits}
 use Rattle.factor.proofs.pattern.discount.Goals as goal
 
 pub keep-requires : goal.keep-requires
-keep-requires c = search fine_fits
-
-pub returns-in-Fine : goal.returns-in-Fine
-returns-in-Fine c = search fine_kept
-
-pub returns-in-Refused : goal.returns-in-Refused
-returns-in-Refused c = search verdict_refused
+keep-requires c = fine_fits c.args.letter c.args.rate c.args.paid.now c.args.incurred.now _ (sym c.schedule_of.ensures ∙ c.in_ok-pay.was)

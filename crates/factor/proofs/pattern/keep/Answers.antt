@@ -1,27 +1,28 @@
 -- `factor::pattern::keep` meets its contract: the goals that the check leaves. Assumes nothing.
-use mathlib.Core.Path.{◌≡◌, sym, ◌∙◌}
-use mathlib.Core.Bool.{true, false}
+use mathlib.Core.Path.{ap}
+use native.Mathlib.Omega.{arith}
 use borrow.Author.Rules.{rules}
-use Rattle.model.specs.Letter.{ten_year}
-use Rattle.factor.proofs.Patterns.{ten_part, two_part}
+use Prim.Native.Nat.{ℕ}
+use mathlib.Core.List.{◌++◌}
+use lib.ListN.{drop, replicate}
+use Rattle.model.proofs.Ages.{ages_small}
+use Rattle.factor.proofs.Patterns.{walkable, composed, kept}
 use Rattle.factor.proofs.pattern.keep.Goals as goal
 
-pub keep_ten_year-requires : goal.keep_ten_year-requires
-keep_ten_year-requires c =
-    let t : ten_year c.args.letter ≡ true = sym c.is_ten_year.ensures ∙ c.if-is_ten_year.true in
-    (t, c.requires)
+pub walk-requires : goal.walk-requires
+walk-requires c =
+    rw c.all_ages-count.ensures
+    (walkable c.args.letter _ _ _ c.args.pay c.half_year_with_hint-half.ensures c.number-number.ensures.within (search rules) c.requires)
 
-pub returns-then-is_ten_year : goal.returns-then-is_ten_year
-returns-then-is_ten_year c =
-    let t : ten_year c.args.letter ≡ true = sym c.is_ten_year.ensures ∙ c.if-is_ten_year.true in
-    rw (ten_part c.args.letter c.args.pay t (search rules)) c.keep_ten_year.ensures
+pub first-requires : goal.first-requires
+first-requires c = omega (arith, c.ages.ensures, ages_small c.args.letter)
 
-pub keep_two_year-requires : goal.keep_two_year-requires
-keep_two_year-requires c =
-    let t : ten_year c.args.letter ≡ false = sym c.is_ten_year.ensures ∙ c.if-is_ten_year.false in
-    (t, c.requires)
+pub composite-requires : goal.composite-requires
+composite-requires c =
+    composed c.args.letter c.args.rate _ _ c.args.pay _ _ _ _ _ c.half_year_with_hint-half.ensures (search rules) c.requires (rw c.all_ages-count.ensures at c.walk.ensures)
+    (ap (λ (n : ℕ). c.walk.new.factors ++ drop {A = ℕ} n (replicate 16 0)) c.all_ages-count.ensures)
 
 pub returns : goal.returns
 returns c =
-    let t : ten_year c.args.letter ≡ false = sym c.is_ten_year.ensures ∙ c.if-is_ten_year.false in
-    rw (two_part c.args.letter c.args.pay t) c.keep_two_year.ensures
+    kept c.args.letter c.args.rate _ _ c.args.pay _ _ _ _ _ _ _ c.half_year_with_hint-half.ensures c.number-number.ensures.value (search rules) (rw c.all_ages-count.ensures at c.walk.ensures)
+    (ap (λ (n : ℕ). c.walk.new.factors ++ drop {A = ℕ} n (replicate 16 0)) c.all_ages-count.ensures) (rw c.ages.ensures at c.first.ensures) c.composite.ensures

@@ -1,21 +1,14 @@
 -- `field::field::first` meets its contract: the goals that the check leaves. Assumes nothing.
-use mathlib.Core.Path.{sym}
-use native.Mathlib.Omega.{arith}
-use lib.Seq.{length-take-le}
-use Rattle.field.proofs.Scan.{scan_start, scan_stop, scan_on, scan_end}
+use Rattle.std.proofs.Common.{rules, tests}
+use Rattle.std.proofs.lemmas.Iterator.{YieldsList-from_slice}
+use Rattle.std.proofs.lemmas.Iterator.Search.{position_from_yields_List}
+use Rattle.field.proofs.Scan.{is_tab, first_is, first_whole}
 use Rattle.field.proofs.field.first.Goals as goal
 
-pub loop-i-init : goal.loop-i-init
-loop-i-init c = scan_start _
+pub returns-in-Some : goal.returns-in-Some
+returns-in-Some c =
+    first_is c.args.rest.now c.in-Some.tab (position_from_yields_List is_tab _ _ _ c.in-Some.ensures.ran (YieldsList-from_slice c.args.rest.now cc) (λ x b q k. search (rules, tests)))
 
-pub slice_bounds-result-end : goal.slice_bounds-result-end
-slice_bounds-result-end c = sym (length-take-le _ _ (omega arith))
-
-pub returns-then-rest-i-eq9 : goal.returns-then-rest-i-eq9
-returns-then-rest-i-eq9 c = search scan_stop
-
-pub loop-i-preserved : goal.loop-i-preserved
-loop-i-preserved c = search scan_on
-
-pub returns : goal.returns
-returns c = search scan_end
+pub returns-in-None : goal.returns-in-None
+returns-in-None c =
+    first_whole c.args.rest.now (position_from_yields_List is_tab _ _ _ c.in-None.ensures.ran (YieldsList-from_slice c.args.rest.now cc) (λ x b q k. search (rules, tests)))

@@ -1,16 +1,11 @@
 -- `field::field::has_fields` meets its contract: the goals that the check leaves. Assumes nothing.
-use Rattle.field.proofs.Fields.{count_start, count_tab, count_other, one_too_many, as_many}
+use Rattle.std.proofs.Common.{rules, tests}
+use Rattle.std.proofs.lemmas.Iterator.{YieldsList-from_slice, YieldsList-from_take}
+use Rattle.std.proofs.lemmas.Iterator.Consumers.{YieldsList-at, YieldsList-from_filter, count_from_yields_List}
+use Rattle.field.proofs.Scan.{is_tab}
+use Rattle.field.proofs.Fields.{as_many}
 use Rattle.field.proofs.field.has_fields.Goals as goal
-use Rattle.field.proofs.field.has_fields.Goals.{then-line-at-eq9+else-found-expected, else-line-at-eq9}
-
-pub loop-at-init : goal.loop-at-init
-loop-at-init c = count_start _
-
-pub returns-then-found-expected : goal.returns-then-found-expected
-returns-then-found-expected c = search one_too_many
-
-pub loop-at-preserved : goal.loop-at-preserved
-loop-at-preserved c = elim c.if-line-at-eq9.branch [ then-line-at-eq9+else-found-expected w ↦ search count_tab | else-line-at-eq9 w ↦ search count_other ]
 
 pub returns : goal.returns
-returns c = search as_many
+returns c =
+    as_many c.args.line.now c.args.expected c.count-tabs.result (count_from_yields_List c.take.result c.count-tabs.result c.count-tabs.ensures.ran (YieldsList-from_take c.args.expected (YieldsList-at c.take.ensures.source (YieldsList-from_filter _ is_tab (YieldsList-from_slice c.args.line.now cc) c.filter.ensures.closure (λ x b q k. search (rules, tests)))) cc))

@@ -1,10 +1,6 @@
--- `field::field::start`: what its loop keeps, and what falls. Assumes nothing.
-use Prim.Native.Nat.{◌-◌}
+-- `field::field::start`: what its loop keeps. Assumes nothing.
 use Rattle.field.proofs.Fields.{Passing}
 use Rattle.field.proofs.field.start.Given as goal
 
-abbrev pub invariant-loop-k : goal.invariant-loop-k
-invariant-loop-k l = Passing l.line l.place l.at l.k
-
-abbrev pub decreases-loop-k : goal.decreases-loop-k
-decreases-loop-k l = l.place - l.k
+abbrev pub invariant-loop : goal.invariant-loop
+invariant-loop l = Passing l.line l.place l.at l.counter

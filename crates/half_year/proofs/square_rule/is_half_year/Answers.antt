@@ -2,32 +2,14 @@
 use Rattle.half_year.proofs.Parts.{above_one, high_fits, high_product_fits, high_too_large, high_too_small, low_fits, low_product_fits, low_too_large, step_fits, step_decides}
 use Rattle.half_year.proofs.square_rule.is_half_year.Goals as goal
 
-pub returns-then-half-gt-ONE : goal.returns-then-half-gt-ONE
-returns-then-half-gt-ONE c = search above_one
-
-pub overflow_mul-high_product : goal.overflow_mul-high_product
-overflow_mul-high_product c = search high_fits
-
-pub overflow_mul-high_product-2 : goal.overflow_mul-high_product-2
-overflow_mul-high_product-2 c = search high_product_fits
-
 pub returns-then-high_product-gt-LIMIT_HIGH : goal.returns-then-high_product-gt-LIMIT_HIGH
 returns-then-high_product-gt-LIMIT_HIGH c = search high_too_large
 
 pub returns-then-left_high-ge-PART_SQUARED : goal.returns-then-left_high-ge-PART_SQUARED
 returns-then-left_high-ge-PART_SQUARED c = search high_too_small
 
-pub overflow_mul-low_product : goal.overflow_mul-low_product
-overflow_mul-low_product c = search low_fits
-
-pub overflow_mul-low_product-2 : goal.overflow_mul-low_product-2
-overflow_mul-low_product-2 c = search low_product_fits
-
 pub returns-then-low_product-left : goal.returns-then-low_product-left
 returns-then-low_product-left c = search low_too_large
-
-pub overflow_mul-step : goal.overflow_mul-step
-overflow_mul-step c = search step_fits
 
 pub returns : goal.returns
 returns c = search step_decides

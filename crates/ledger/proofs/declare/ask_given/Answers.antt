@@ -2,8 +2,8 @@
 use Rattle.ledger.proofs.Declared.{given_refused, declared}
 use Rattle.ledger.proofs.declare.ask_given.Goals as goal
 
-pub returns-then-before : goal.returns-then-before
-returns-then-before c = search given_refused
+pub returns-then-is_some : goal.returns-then-is_some
+returns-then-is_some c = search given_refused
 
 pub returns : goal.returns
 returns c = search declared

@@ -3,11 +3,8 @@ use Rattle.ledger.proofs.Settling.{goes_on, letter_refused}
 use Rattle.ledger.proofs.Declared.{opening_sound, opening_refused}
 use Rattle.ledger.proofs.declare.declare.Goals as goal
 
-pub ask_given-requires : goal.ask_given-requires
-ask_given-requires c = search opening_sound
-
-pub returns-then-is_opening : goal.returns-then-is_opening
-returns-then-is_opening c = search (goes_on, opening_sound)
+pub returns-then-contains : goal.returns-then-contains
+returns-then-contains c = search (goes_on, opening_sound)
 
 pub returns-then-is_covered : goal.returns-then-is_covered
 returns-then-is_covered c = search opening_refused

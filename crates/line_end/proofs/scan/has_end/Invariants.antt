@@ -1,10 +1,6 @@
--- `line_end::scan::has_end`: what its loop keeps, and what falls. Assumes nothing.
-use Prim.Native.Nat.{◌-◌}
+-- `line_end::scan::has_end`: what its loop keeps. Assumes nothing.
 use Rattle.line_end.proofs.Blocks.{Looking}
 use Rattle.line_end.proofs.scan.has_end.Given as goal
 
-abbrev pub invariant-loop-i : goal.invariant-loop-i
-invariant-loop-i l = Looking l.block l.found l.i
-
-abbrev pub decreases-loop-i : goal.decreases-loop-i
-decreases-loop-i l = 16 - l.i
+abbrev pub invariant-loop-byte : goal.invariant-loop-byte
+invariant-loop-byte l = Looking l.block l.found l.byte-index

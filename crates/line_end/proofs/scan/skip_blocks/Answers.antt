@@ -1,12 +1,6 @@
 -- `line_end::scan::skip_blocks` meets its contract: the goals that the check leaves. Assumes nothing.
-use Rattle.line_end.proofs.Passing.{pass_start, block_sized, pass_block, ends_in_block, ends_in_rest}
+use Rattle.line_end.proofs.Passing.{pass_block, ends_in_block, ends_in_rest}
 use Rattle.line_end.proofs.scan.skip_blocks.Goals as goal
-
-pub loop-at-init : goal.loop-at-init
-loop-at-init c = search pass_start
-
-pub has_end-requires : goal.has_end-requires
-has_end-requires c = search block_sized
 
 pub returns-then-has_end : goal.returns-then-has_end
 returns-then-has_end c = search ends_in_block

@@ -2,8 +2,8 @@
 use Rattle.mid_term.proofs.Registered.{month_given, month_registered}
 use Rattle.mid_term.proofs.register_month.ask_given.Goals as goal
 
-pub returns-in-Given : goal.returns-in-Given
-returns-in-Given c = search month_given
+pub returns-in-Some : goal.returns-in-Some
+returns-in-Some c = search month_given
 
-pub returns-in-Missing : goal.returns-in-Missing
-returns-in-Missing c = search month_registered
+pub returns-in-None : goal.returns-in-None
+returns-in-None c = search month_registered

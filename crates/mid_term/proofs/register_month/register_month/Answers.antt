@@ -2,14 +2,11 @@
 use Rattle.mid_term.proofs.Registered.{is_dated, month_on, date_refused, rate_refused}
 use Rattle.mid_term.proofs.register_month.register_month.Goals as goal
 
-pub ask_given-requires : goal.ask_given-requires
-ask_given-requires c = search is_dated
-
 pub returns-then-is_date : goal.returns-then-is_date
 returns-then-is_date c = search month_on
 
 pub returns-else-is_date : goal.returns-else-is_date
 returns-else-is_date c = search date_refused
 
-pub returns-in-Outside : goal.returns-in-Outside
-returns-in-Outside c = search rate_refused
+pub returns-in-None : goal.returns-in-None
+returns-in-None c = search rate_refused

@@ -2,8 +2,5 @@
 use Rattle.mid_term.proofs.FromRegister.{rate_given, rate_to_be_given}
 use Rattle.mid_term.proofs.set_rate_from_register.ask_given.Goals as goal
 
-pub ask_months-requires : goal.ask_months-requires
-ask_months-requires c = search rate_to_be_given
-
-pub returns-in-Given : goal.returns-in-Given
-returns-in-Given c = search rate_given
+pub returns-in-Some : goal.returns-in-Some
+returns-in-Some c = search rate_given

@@ -2,11 +2,8 @@
 use Rattle.mid_term.proofs.FromRegister.{is_within, year_on, year_refused}
 use Rattle.mid_term.proofs.set_rate_from_register.set_rate_from_register.Goals as goal
 
-pub ask_given-requires : goal.ask_given-requires
-ask_given-requires c = search is_within
-
-pub returns-then-is_year : goal.returns-then-is_year
-returns-then-is_year c = search year_on
+pub returns-then-contains : goal.returns-then-contains
+returns-then-contains c = search year_on
 
 pub returns : goal.returns
 returns c = search year_refused

@@ -1,10 +1,7 @@
 -- `patterns::add_pattern::add_pattern` meets its contract: the goals that the check leaves. Assumes nothing.
 use Rattle.ledger.proofs.Settling.{letter_refused, count_refused, limits_refused}
-use Rattle.patterns.proofs.PatternAsked.{pattern_sound, pattern_on}
+use Rattle.patterns.proofs.PatternAsked.{pattern_on}
 use Rattle.patterns.proofs.add_pattern.add_pattern.Goals as goal
-
-pub ask_declared-requires : goal.ask_declared-requires
-ask_declared-requires c = search pattern_sound
 
 pub returns-then-has_limits : goal.returns-then-has_limits
 returns-then-has_limits c = search pattern_on

@@ -3,8 +3,8 @@ use Rattle.patterns.proofs.PatternAdded.{pattern_added}
 use Rattle.patterns.proofs.PatternAsked.{ratios_refused}
 use Rattle.patterns.proofs.add_pattern.ask_ratios.Goals as goal
 
-pub returns-in-Fine : goal.returns-in-Fine
-returns-in-Fine c = search pattern_added
+pub returns-in-Ok : goal.returns-in-Ok
+returns-in-Ok c = search pattern_added
 
-pub returns-in-Refused : goal.returns-in-Refused
-returns-in-Refused c = search ratios_refused
+pub returns-in-Err : goal.returns-in-Err
+returns-in-Err c = search ratios_refused

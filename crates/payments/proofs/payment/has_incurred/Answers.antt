@@ -1,18 +1,14 @@
 -- `payments::payment::has_incurred` meets its contract: the goals that the check leaves. Assumes nothing.
-use mathlib.Core.Path.{refl}
-use native.Mathlib.Omega.{arith}
 use Rattle.payments.proofs.Ages.{incurred_on, stop_at_none, stop_at_above, incurred_end}
 use Rattle.payments.proofs.payment.has_incurred.Goals as goal
-
-pub loop-i-init : goal.loop-i-init
-loop-i-init c = record { inside = omega arith; rest = refl }
+use Rattle.payments.proofs.payment.has_incurred.Goals.{then-incurred-i-eq0-via-then-incurred-i-eq0, then-incurred-i-eq0-via-else-incurred-i-eq0+then-incurred-i}
 
 pub returns-then-incurred-i-eq0 : goal.returns-then-incurred-i-eq0
-returns-then-incurred-i-eq0 c = search stop_at_none
-
-pub returns-then-incurred-i : goal.returns-then-incurred-i
-returns-then-incurred-i c =
-    stop_at_above _ _ c.loop-i.i c.requires c.loop-i.invariant (omega arith) (omega arith)
+returns-then-incurred-i-eq0 c =
+    elim c.then-incurred-i-eq0.branch [
+      | then-incurred-i-eq0-via-then-incurred-i-eq0 w ↦ stop_at_none _ _ c.loop-i.i c.requires c.loop-i.invariant c.loop-i-test.true w.if-incurred-i-eq0.true
+      | then-incurred-i-eq0-via-else-incurred-i-eq0+then-incurred-i w ↦ stop_at_above _ _ c.loop-i.i c.requires c.loop-i.invariant c.loop-i-test.true w.if-incurred-i.true
+    ]
 
 pub loop-i-preserved : goal.loop-i-preserved
 loop-i-preserved c = search incurred_on

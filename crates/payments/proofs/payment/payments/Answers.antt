@@ -1,19 +1,13 @@
 -- `payments::payment::payments` meets its contract: the goals that the check leaves. Assumes nothing.
-use mathlib.Core.Path.{refl}
 use native.Mathlib.Omega.{arith}
-use Rattle.payments.proofs.Ages.{start, sound_at, ratio_fits, stop, on, end, falls}
+use Rattle.payments.proofs.Ages.{sound_at, ratio_fits, stop, on, end}
 use Rattle.payments.proofs.payment.payments.Goals as goal
-
-pub loop-i-init : goal.loop-i-init
-loop-i-init c = start _ _ _ refl
 
 pub cumulative_ratio-ratio-requires : goal.cumulative_ratio-ratio-requires
 cumulative_ratio-ratio-requires c = search sound_at
 
 pub returns-then-ratio-last : goal.returns-then-ratio-last
-returns-then-ratio-last c =
-    falls _ _ _ _ (omega arith) (omega arith)
-    (stop c.args.paid.now c.args.incurred.now c.loop-i.pay c.loop-i.last c.loop-i.i c.requires c.loop-i.invariant (omega arith) c.cumulative_ratio-ratio.result c.cumulative_ratio-ratio.ensures (omega arith))
+returns-then-ratio-last c = search stop
 
 pub overflow_mul-pay : goal.overflow_mul-pay
 overflow_mul-pay c =

@@ -1,34 +1,21 @@
 -- `payments::schedule::ask_lists` meets its contract: the goals that the check leaves. Assumes nothing.
 use mathlib.Core.Path.{sym, ◌∙◌}
-use native.Mathlib.Omega.{arith}
-use Rattle.payments.proofs.Judged.{length_paid, length_incurred, limits_paid, limits_incurred, judged}
+use Rattle.payments.proofs.Judged.{length_paid, length_incurred, limits_paid, limits_incurred}
 use Rattle.payments.proofs.schedule.ask_lists.Goals as goal
+use Rattle.payments.proofs.schedule.ask_lists.Goals.{else-all-via-then-all+else-all-2, else-all-via-else-all}
 
 pub returns-then-paid-ages : goal.returns-then-paid-ages
-returns-then-paid-ages c =
-    length_paid c.args.letter c.args.paid.now c.args.incurred.now _ (λ e. c.if-paid-ages.true (e ∙ sym c.ages-ages.ensures)) c.refuse.ensures
+returns-then-paid-ages c = length_paid c.args.letter _ _ (λ e. c.if-paid-ages.true (e ∙ sym c.ages-ages.ensures))
 
 pub returns-then-incurred-ages : goal.returns-then-incurred-ages
 returns-then-incurred-ages c =
-    length_incurred c.args.letter c.args.paid.now c.args.incurred.now _ (c.if-paid-ages.false ∙ c.ages-ages.ensures) (λ e. omega (arith, c.if-paid-ages.false, c.if-incurred-ages.true, c.ages-ages.ensures, e)) c.refuse-then-incurred-ages.ensures
-
-pub judge-requires : goal.judge-requires
-judge-requires c =
-    record {
-      paid_length = c.if-paid-ages.false ∙ c.ages-ages.ensures;
-      incurred_length = c.if-incurred-ages.false ∙ c.ages-ages.ensures;
-      paid_amounts = sym c.all.ensures ∙ c.if-all.true;
-      incurred_amounts = sym c.all-then-all.ensures ∙ c.if-all-2.true;
-    }
-
-pub returns-then-all-2 : goal.returns-then-all-2
-returns-then-all-2 c =
-    judged c.args.letter c.args.paid.now c.args.incurred.now _ (c.if-paid-ages.false ∙ c.ages-ages.ensures) (c.if-incurred-ages.false ∙ c.ages-ages.ensures) (sym c.all.ensures ∙ c.if-all.true) (sym c.all-then-all.ensures ∙ c.if-all-2.true) c.judge.ensures
-
-pub returns-then-all : goal.returns-then-all
-returns-then-all c =
-    limits_incurred c.args.letter c.args.paid.now c.args.incurred.now _ (c.if-paid-ages.false ∙ c.ages-ages.ensures) (c.if-incurred-ages.false ∙ c.ages-ages.ensures) (sym c.all.ensures ∙ c.if-all.true) (sym c.all-then-all.ensures ∙ c.if-all-2.false) c.refuse-then-all.ensures
+    length_incurred c.args.letter _ _ (c.if-paid-ages.false ∙ c.ages-ages.ensures) (λ e. c.if-incurred-ages.true (e ∙ sym c.ages-ages.ensures))
 
 pub returns : goal.returns
 returns c =
-    limits_paid c.args.letter c.args.paid.now c.args.incurred.now _ (c.if-paid-ages.false ∙ c.ages-ages.ensures) (c.if-incurred-ages.false ∙ c.ages-ages.ensures) (sym c.all.ensures ∙ c.if-all.false) c.refuse-2.ensures
+    let p = c.if-paid-ages.false ∙ c.ages-ages.ensures in
+    let i = c.if-incurred-ages.false ∙ c.ages-ages.ensures in
+    elim c.else-all.branch [
+      | else-all-via-then-all+else-all-2 w ↦ limits_incurred c.args.letter _ _ p i (sym c.all.ensures ∙ w.if-all.true) (sym w.all-then-all.ensures ∙ w.if-all-2.false)
+      | else-all-via-else-all w ↦ limits_paid c.args.letter _ _ p i (sym c.all.ensures ∙ w.if-all.false)
+    ]

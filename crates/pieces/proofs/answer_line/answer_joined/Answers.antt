@@ -1,6 +1,6 @@
--- `pieces::answer_line::answer_joined` meets its contract: the goals that the check leaves. Assumes nothing.
+-- `answer_joined`: the goals that the check leaves.
 use Rattle.pieces.proofs.Answering.{answers_joined}
 use Rattle.pieces.proofs.answer_line.answer_joined.Goals as goal
 
 pub returns : goal.returns
-returns c = search answers_joined
+returns g c = answers_joined _ _ _ c.args.begun.now c.args.rest.now _ c.join-line.ensures _ _ _ _ (rw c.as_slice.ensures at c.answer_line.ensures)

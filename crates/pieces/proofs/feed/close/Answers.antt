@@ -1,9 +1,9 @@
--- `pieces::feed::close` meets its contract: the goals that the check leaves. Assumes nothing.
+-- `close`: the goals that the check leaves.
 use Rattle.pieces.proofs.FeedEnds.{closes_none, closes_line}
 use Rattle.pieces.proofs.feed.close.Goals as goal
 
-pub returns-then-begun-eq0 : goal.returns-then-begun-eq0
-returns-then-begun-eq0 c = search closes_none
+pub returns-then-is_empty : goal.returns-then-is_empty
+returns-then-is_empty c = closes_none _ _ _ c.clear.ensures _ c.as_slice-line.ensures _ c.is_empty.ensures c.if-is_empty.true
 
 pub returns : goal.returns
-returns c = search closes_line
+returns c = closes_line _ _ _ c.clear.ensures _ c.as_slice-line.ensures _ c.is_empty.ensures c.if-is_empty.false _ _ _ c.answer_line.ensures

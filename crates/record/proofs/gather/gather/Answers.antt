@@ -1,25 +1,20 @@
 -- `record::gather::gather` meets its contract: the goals that the check leaves. Assumes nothing.
 use native.Mathlib.Omega.{arith}
 use Rattle.reader.proofs.Places.{ends}
-use Rattle.record.proofs.Gathers.{gather_start, gather_ill, gather_on, gather_end}
+use Rattle.record.proofs.Gathers.{gather_ill, gather_on, gather_end}
 use Rattle.record.proofs.gather.gather.Goals as goal
 
-pub loop-k-init : goal.loop-k-init
-loop-k-init c = search gather_start
+pub returns-in-None : goal.returns-in-None
+returns-in-None c = gather_ill _ _ _ _ _ _ _ _ _ _ c.loop-k.invariant (omega arith) _ c.allows_minus.ensures c.in-None.ensures
 
 pub overflow_add-at : goal.overflow_add-at
-overflow_add-at c =
-    omega (arith, c.well_formed, ends c.args.line.now c.loop-k.at c.allows_minus.result c.read_number-number.result c.read_number-number.ensures c.if-right.true)
+overflow_add-at c = omega (arith, c.well_formed, ends c.args.line.now c.loop-k.at c.allows_minus.result c.in-Some.number c.in-Some.ensures)
 
-pub overflow_add-at-then-right : goal.overflow_add-at-then-right
-overflow_add-at-then-right c =
-    omega (arith, c.well_formed, ends c.args.line.now c.loop-k.at c.allows_minus.result c.read_number-number.result c.read_number-number.ensures c.if-right.true)
+pub overflow_add-at-in-Some : goal.overflow_add-at-in-Some
+overflow_add-at-in-Some c = omega (arith, c.well_formed, ends c.args.line.now c.loop-k.at c.allows_minus.result c.in-Some.number c.in-Some.ensures)
 
 pub loop-k-preserved : goal.loop-k-preserved
-loop-k-preserved c = search gather_on
-
-pub returns-else-right : goal.returns-else-right
-returns-else-right c = search gather_ill
+loop-k-preserved c = gather_on _ _ _ _ _ _ _ _ _ _ c.loop-k.invariant (omega arith) _ c.allows_minus.ensures c.in-Some.number c.in-Some.ensures
 
 pub returns : goal.returns
 returns c = search gather_end

@@ -1,11 +1,6 @@
--- `reserve::paid_total::paid_total`: what its loop keeps, and what falls. Assumes nothing.
-use Prim.Native.Nat.{◌-◌}
-use lib.ListN.{length}
+-- `reserve::paid_total::paid_total`: what its loop keeps. Assumes nothing.
 use Rattle.reserve.proofs.Paids.{Summed}
 use Rattle.reserve.proofs.paid_total.paid_total.Given as goal
 
-abbrev pub invariant-loop-i : goal.invariant-loop-i
-invariant-loop-i l = Summed l.paid l.total l.i
-
-abbrev pub decreases-loop-i : goal.decreases-loop-i
-decreases-loop-i l = length l.paid - l.i
+abbrev pub invariant-loop-payment : goal.invariant-loop-payment
+invariant-loop-payment l = Summed l.paid l.total l.payment-index

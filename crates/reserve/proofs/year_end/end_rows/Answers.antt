@@ -18,11 +18,11 @@ paid_total-payments-requires c = search asks_paid_list
 pub loss-requires : goal.loss-requires
 loss-requires c = search asks_figures
 
-pub returns-then-all : goal.returns-then-all
-returns-then-all c = search fine_is
+pub returns-then-not-all : goal.returns-then-not-all
+returns-then-not-all c = search paid_refused
 
-pub returns-then-has_lengths : goal.returns-then-has_lengths
-returns-then-has_lengths c = search paid_refused
+pub returns-then-not-has_lengths : goal.returns-then-not-has_lengths
+returns-then-not-has_lengths c = search length_refused
 
 pub returns : goal.returns
-returns c = search length_refused
+returns c = search fine_is

@@ -1,0 +1,6 @@
+-- `numbers::front::leading_digits`: what its loop keeps. Assumes nothing.
+use Rattle.numbers.specs.Number.{Told}
+use Rattle.numbers.proofs.front.leading_digits.Given as goal
+
+abbrev pub invariant-loop-i : goal.invariant-loop-i
+invariant-loop-i l = Told l.rest l.size l.i

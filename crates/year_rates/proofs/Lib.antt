@@ -1,2 +1,0 @@
-pub mod HintKept
-pub mod RateRead
