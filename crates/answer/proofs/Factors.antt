@@ -9,7 +9,7 @@ use Rattle.model.proofs.Ages.{ages_small}
 use Rattle.state.specs.Store.{piece, size}
 use Rattle.state.specs.Patterns.{slot_start, slot_at, factor_in, factor_at, pattern_at}
 use Rattle.state.proofs.Places.{covered_place}
-use Rattle.answer.specs.Text.{tabbed}
+use Rattle.answer.specs.Put.{tabbed}
 
 -- one number more
 tabbed_more : (list : List ℕ) (n : ℕ) → tabbed (list ++ (n ∷ [])) ≡ tabbed list ++ (9 ∷ decimal n)

@@ -1,12 +1,13 @@
 -- A number's digits are those that std writes; and texts one after the other.
 -- Assumes nothing.
-use Rattle.std.proofs.Common.{List, [], ◌∷◌, ◌++◌, ◌≡◌, refl, sym, ap, ◌∙◌, append_assoc, append-nil, ℕ, zero, suc, ◌+◌, ◌-◌, ◌/◌, ◌%◌, ◌^◌, ◌<◌, ℤ, pos, negsuc, arith, map, ⊎_elim, eq-zero-or-pos, lt-ltb, le-ltb}
+use Rattle.std.proofs.Common.{List, [], ◌∷◌, ◌++◌, ◌≡◌, refl, sym, ap, ◌∙◌, append_assoc, append-nil, ℕ, zero, suc, ◌+◌, ◌-◌, ◌/◌, ◌%◌, ◌^◌, ◌<◌, ℤ, pos, negsuc, arith, map, ⊎_elim, eq-zero-or-pos, lt-ltb, le-ltb, true, length, take, drop, drop-drop}
 use Rattle.std.specs.Fmt as std
 use Rattle.std.proofs.lemmas.Fmt.{decimal_digit, decimal_step}
 use lib.Signed.{mag}
 use Rattle.model.specs.Number.{digits_before, decimal, signed_decimal}
 use Rattle.model.specs.Answer.{line_of_text}
-use Rattle.answer.specs.Text.{tabbed}
+use Rattle.answer.specs.Put.{placed, tabbed}
+use Rattle.answer.specs.Text.{has_room, PutsWithRoom}
 
 -- the model's digits before others, by more steps than are needed
 digits_are : (more n : ℕ) (others : List ℕ) → n < more → n < 2 ^ 64 → digits_before more n others ≡ std.decimal n ++ others
@@ -37,3 +38,11 @@ fact_line f g (n ∷ list) = rw (fact_line (decimal n) g list, append_assoc (dec
 -- texts put one after the other are one text
 pub joined : (a b c : List ℕ) → (a ++ b) ++ c ≡ a ++ (b ++ c)
 joined a b c = append_assoc a b c
+
+-- a text was put where the longest text has room
+pub put_where_room : (buffer : List ℕ) (at : ℕ) (text : List ℕ) (count : ℕ) → count ≡ length text → has_room buffer at ≡ true
+    → (copied : List ℕ) → copied ≡ text → PutsWithRoom buffer at text (take at buffer ++ (copied ++ drop (at + count - at) (drop at buffer))) (at + count)
+unfolding placed
+put_where_room buffer at text count en e copied ec =
+    let reached : at + (at + count - at) ≡ at + count = omega arith in
+    record { whole = rw (e, ec, drop-drop, reached, en); after_it = rw (e, en) }

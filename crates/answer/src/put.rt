@@ -1,10 +1,9 @@
-// Texts put after those that a buffer has.
+// A text, and what is put at its end.
 ghost use Rattle.std.specs.Prelude.{◌≡◌, ◌+◌, ◌≤◌, ◌∷◌, ◌++◌, length};
-ghost use Rattle.model.specs.Number.{decimal, signed_decimal};
 ghost use Rattle.arrayvec.specs.ArrayVec.{array_vec_len};
 
 use arrayvec::ArrayVec;
-use itoa::Buffer;
+use itoa::{Buffer, Integer};
 
 pub fn put<const N: usize>(out: &mut ArrayVec<u8, N>, text: &[u8])
     requires { array_vec_len out.old + length text.now ≤ N }
@@ -15,21 +14,11 @@ pub fn put<const N: usize>(out: &mut ArrayVec<u8, N>, text: &[u8])
 }
 
 // A tab and a number.
-pub fn put_number<const N: usize>(out: &mut ArrayVec<u8, N>, n: u64)
-    requires { array_vec_len out.old + 21 ≤ N }
-    ensures bytes { out.new.items ≡ out.old.items ++ (9 ∷ decimal n) }
-    ensures short { array_vec_len out.new ≤ array_vec_len out.old + 21 }
+pub fn put_number<I: Integer, const N: usize>(out: &mut ArrayVec<u8, N>, n: I)
+    requires { array_vec_len out.old + (I.MAX_STR_LEN + 1) ≤ N }
+    ensures bytes { out.new.items ≡ out.old.items ++ (9 ∷ I.text n) }
+    ensures short { array_vec_len out.new ≤ array_vec_len out.old + (I.MAX_STR_LEN + 1) }
 {
     out.push(b'\t');
     put(out, Buffer::new().format(n).as_bytes());
-}
-
-// A tab and a number that may fall below zero.
-pub fn put_signed<const N: usize>(out: &mut ArrayVec<u8, N>, v: i64)
-    requires { array_vec_len out.old + 22 ≤ N }
-    ensures bytes { out.new.items ≡ out.old.items ++ (9 ∷ signed_decimal v) }
-    ensures short { array_vec_len out.new ≤ array_vec_len out.old + 22 }
-{
-    out.push(b'\t');
-    put(out, Buffer::new().format(v).as_bytes());
 }

@@ -1,69 +1,47 @@
--- The rows of a year, as the code goes through them: how far its loops are, and what they leave.
+-- The rows of a year, as the code goes through them: what question 13 asks of them, and how far the loop over their factors is.
 -- Assumes nothing.
-use mathlib.Core.Bool.{Bool, true, false, ◌&&◌}
-use mathlib.Core.List.{List, [], ◌∷◌}
+use mathlib.Core.Bool.{not}
+use mathlib.Core.List.{List, [], ◌∷◌, map}
 use mathlib.Core.Logic.{⊎_elim}
-use mathlib.Core.Path.{◌≡◌, refl, sym, ◌∙◌}
+use mathlib.Core.Path.{◌≡◌, refl, ap, ◌∙◌}
 use Prim.Native.Nat.{ℕ, zero, suc, ◌+◌, ◌-◌, ◌≤◌, ◌<◌}
 use native.Mathlib.Nat.{eq-or-lt_of_le}
-use native.Mathlib.Numerals.{add-one}
 use native.Mathlib.Omega.{arith}
-use borrow.Author.Tests.{eq-eqb, ne_eqb, lt-ltb, le-ltb, ltb-true, ltb-false}
+use borrow.Author.Tests.{ne_eqb, lt-ltb, le-ltb}
 use lib.Dec.{eqb, ltb}
-use lib.ListN.{length, take, get_or, set, replicate, length-take, length-set, drop_of_length-le}
+use lib.ListN.{length, take, drop, get_or, set, replicate, length-set}
 use lib.Seq.{get_or-set_same, get_or-set_other}
+use Rattle.std.specs.List.{list_all, zip}
+use Rattle.std.proofs.lemmas.List.{take-map, drop-map}
+use Rattle.std.proofs.lemmas.List.Folds.{list_all-map}
 use Rattle.model.specs.Letter.{ages}
+use Rattle.model.specs.Row.{Row, stated, gross}
 use Rattle.model.proofs.Ages.{ages_small}
 use Rattle.reserve.specs.Lists.{stated_rows}
 use Rattle.line_limits.specs.declared.line.Patterns.{Patterns}
 use Rattle.state.specs.Patterns.{factor_at}
-use Rattle.closings.specs.Rows.{Paired, have_patterns, row_factor_of, FactorsOf}
+use Rattle.closings.specs.Rows.{have_patterns, row_factor_of, FactorsOf}
 
--- question 13, one row more, and no more rows
-have_next : (k n : ℕ) (unpaid tabular : List ℕ) → k < n → k < length unpaid → k < length tabular
-    → have_patterns k n unpaid tabular ≡ eqb (get_or unpaid k 0 + get_or tabular k 0) 0 && have_patterns (suc k) n unpaid tabular
+-- the rows of two lists as their pairs
+pairs : (unpaid tabular : List ℕ) → stated_rows unpaid tabular ≡ map (λ (p : ℕ × ℕ). stated p.0 p.1) (zip unpaid tabular)
+pairs [] tabular = refl
+pairs (u ∷ unpaid) [] = refl
+pairs (u ∷ unpaid) (t ∷ tabular) = ap (λ (rows : List Row). stated u t ∷ rows) (pairs unpaid tabular)
+
+none_is : (n : ℕ) → eqb n 0 ≡ not (ltb 0 n)
+none_is zero = refl
+none_is (suc n) = rw (lt-ltb 0 (suc n) (omega arith), ne_eqb (suc n) 0 (λ e. omega (arith, e)))
+
+without_gross : (ps : List (ℕ × ℕ)) → list_all (λ (p : ℕ × ℕ). eqb (gross (stated p.0 p.1)) 0) ps ≡ list_all (λ (p : ℕ × ℕ). not (ltb 0 (gross (stated p.0 p.1)))) ps
+without_gross [] = refl
+without_gross (p ∷ ps) = rw (none_is (p.0 + p.1), without_gross ps)
+
+-- question 13, asked of the pairs
+pub have_patterns_of : (kept n : ℕ) (unpaid tabular : List ℕ) → have_patterns kept n unpaid tabular ≡ list_all (λ (p : ℕ × ℕ). not (ltb 0 (gross (stated p.0 p.1)))) (drop kept (take n (zip unpaid tabular)))
 unfolding have_patterns
-have_next k zero unpaid tabular lt in_unpaid in_tabular = absurd (omega arith)
-have_next k (suc n) [] tabular lt in_unpaid in_tabular = absurd (omega arith)
-have_next k (suc n) (u ∷ unpaid) [] lt in_unpaid in_tabular = absurd (omega arith)
-have_next zero (suc n) (u ∷ unpaid) (t ∷ tabular) lt in_unpaid in_tabular = refl
-have_next (suc k) (suc n) (u ∷ unpaid) (t ∷ tabular) lt in_unpaid in_tabular = have_next k n unpaid tabular (omega arith) (omega arith) (omega arith)
-
-have_end : (k n : ℕ) (unpaid tabular : List ℕ) → n ≤ k → have_patterns k n unpaid tabular ≡ true
-unfolding have_patterns
-have_end k n unpaid tabular le =
-    rw (drop_of_length-le (take n (stated_rows unpaid tabular)) {i = k} (omega (arith, length-take n (stated_rows unpaid tabular))))
-
--- of n age rows, those from the first one without a pattern to before place k have no gross
-pub record Asked (unpaid tabular : List ℕ) (n first k : ℕ) : Type 0 where
-  pub inside_unpaid : n ≤ length unpaid
-  pub inside_tabular : n ≤ length tabular
-  pub rest : have_patterns first n unpaid tabular ≡ have_patterns k n unpaid tabular
-
-pub ask_start : (letter : ℕ) (unpaid tabular : List ℕ) (n first : ℕ) → Paired letter unpaid tabular → n ≡ ages letter → Asked unpaid tabular n first first
-ask_start letter unpaid tabular n first paired en = record { inside_unpaid = omega arith; inside_tabular = omega arith; rest = refl }
-
-module _ (unpaid tabular : List ℕ) (n first k : ℕ) (a : Asked unpaid tabular n first k) where
-  next : k < n → have_patterns first n unpaid tabular ≡ eqb (get_or unpaid k 0 + get_or tabular k 0) 0 && have_patterns (suc k) n unpaid tabular
-  next lt = a.rest ∙ have_next k n unpaid tabular lt (omega arith) (omega arith)
-
-  -- g is whether the row at place k has gross
-  pub ask_on : (g : Bool) → k < n → g ≡ ltb 0 (get_or unpaid k 0 + get_or tabular k 0) → g ≡ false → Asked unpaid tabular n first (k + 1)
-  ask_on g lt eg no_gross =
-      record {
-        inside_unpaid = a.inside_unpaid;
-        inside_tabular = a.inside_tabular;
-        rest = next lt ∙ rw (eq-eqb (get_or unpaid k 0 + get_or tabular k 0) 0 (omega (arith, ltb-false 0 (get_or unpaid k 0 + get_or tabular k 0) (sym eg ∙ no_gross))), add-one);
-      }
-
-  module _ (letter : ℕ) (patterns : Patterns) (en : n ≡ ages letter) (ef : first ≡ patterns.count) where
-    pub ask_stop : (g : Bool) → k < n → g ≡ ltb 0 (get_or unpaid k 0 + get_or tabular k 0) → g ≡ true → false ≡ have_patterns patterns.count (ages letter) unpaid tabular
-    ask_stop g lt eg some_gross =
-        let above = ltb-true 0 (get_or unpaid k 0 + get_or tabular k 0) (sym eg ∙ some_gross) in
-        rw (← en, ← ef, next lt, ne_eqb (get_or unpaid k 0 + get_or tabular k 0) 0 (λ e. omega (arith, above)))
-
-    pub ask_end : n ≤ k → true ≡ have_patterns patterns.count (ages letter) unpaid tabular
-    ask_end le = rw (← en, ← ef, a.rest, have_end k n unpaid tabular le)
+have_patterns_of kept n unpaid tabular =
+    rw (pairs unpaid tabular, take-map (λ (p : ℕ × ℕ). stated p.0 p.1) n (zip unpaid tabular), drop-map (λ (p : ℕ × ℕ). stated p.0 p.1) kept (take n (zip unpaid tabular)), list_all-map _ (λ (p : ℕ × ℕ). stated p.0 p.1) (drop kept (take n (zip unpaid tabular))))
+    (without_gross (drop kept (take n (zip unpaid tabular))))
 
 -- a row's factor, by the code's counts of ages and of kept patterns
 module _ (store : List ℕ) (letter : ℕ) (patterns : Patterns) (k n : ℕ) (en : n ≡ ages letter) where

@@ -109,16 +109,19 @@ module _ (store : List ℕ) (line : Line) (patterns : Patterns) (letter year : �
         rw (← (closing_of_line letter shown year factors rows (rw (rows_count letter year paid unpaid tabular pre.turned.sound.lengths) row_factors)))
         (closing_limit_lem letter paid unpaid tabular pre.turned.sound.lengths has_limits_lem factors)
 
-    end_is : year_end letter paid unpaid tabular factors (opening_of line) ≡ Ok (record { paid = paid_total rows; closing = amount; loss = loss (paid_total rows) amount (opening_of line) })
+    abbrev tax_loss : ℤ
+    tax_loss = loss (paid_total rows) amount (opening_of line)
+
+    abbrev figures : YearEnd
+    figures = record { paid = paid_total rows; closing = amount; loss = tax_loss }
+
+    end_is : year_end letter paid unpaid tabular factors (opening_of line) ≡ Ok figures
     end_is = year_end_of_line letter paid unpaid tabular pre.turned.sound.lengths has_limits_lem factors shown year (opening_of line) pre.turned.sound.letter opening_limit_lem row_factors
 
     closed_limited : Limited letter (with_closing_of line year amount)
     closed_limited = closing_limited letter line limited year is_year_lem amount patterns keeps last amount_small
 
-    abbrev tax_loss : ℤ
-    tax_loss = loss (paid_total rows) amount (opening_of line)
-
-    of_a_year : OfAYear (paid_total rows) tax_loss
+    of_a_year : OfAYear figures
     of_a_year =
         let paid_small : nat_abs (paid_total rows) ≤ 110000000000 = paid_limit letter paid unpaid tabular pre.turned.sound.lengths has_limits_lem factors in
         record {
@@ -127,15 +130,15 @@ module _ (store : List ℕ) (line : Line) (patterns : Patterns) (letter year : �
         }
 
     -- as code has the figures
-    pub end_answered : (o : ℕ) → o ≡ opening_of line → year_end letter paid unpaid tabular factors o ≡ Ok (record { paid = paid_total rows; closing = amount; loss = loss (paid_total rows) amount (opening_of line) })
+    pub end_answered : (o : ℕ) → o ≡ opening_of line → year_end letter paid unpaid tabular factors o ≡ Ok figures
     end_answered o eo = rw eo end_is
 
-    module _ (o : ℕ) (eo : o ≡ opening_of line) (answered : Result YearEnd Refusal) (ea : answered ≡ year_end letter paid unpaid tabular factors o) (end : YearEnd) (ee : answered ≡ Ok end) (p : ℤ) (ep : p ≡ end.paid) (v : ℤ) (ev : v ≡ end.loss) where
-      figures_are : end ≡ record { paid = paid_total rows; closing = amount; loss = loss (paid_total rows) amount (opening_of line) }
+    module _ (o : ℕ) (eo : o ≡ opening_of line) (answered : Result YearEnd Refusal) (ea : answered ≡ year_end letter paid unpaid tabular factors o) (end : YearEnd) (ee : answered ≡ Ok end) where
+      figures_are : end ≡ figures
       figures_are = sym (cc (sym (ea ∙ end_answered o eo) ∙ ee))
 
-      pub figures_small : OfAYear p v
-      figures_small = rw (ep, ev, figures_are) of_a_year
+      pub figures_small : OfAYear end
+      figures_small = rw figures_are of_a_year
 
       is_later : (before : ℕ) → line.closed ≡ Some before → before < year
       is_later before e =
@@ -149,12 +152,12 @@ module _ (store : List ℕ) (line : Line) (patterns : Patterns) (letter year : �
       within_year : Within (Some year) totals
       within_year = year_within_lem line.closed year is_year_lem (λ before e y. is_later before e) (totals_at store letter line.closed) (paid_total rows) tax_loss (totals_within store letter line.closed) of_a_year.paid_limit of_a_year.loss_limit
 
-      pub year_closed : (book : Book) → length store ≡ size → (middle : List ℕ) → middle ≡ with_totals_of store letter (Some year) (with_year_of (totals_at store letter line.closed) p v)
+      pub year_closed : (book : Book) → length store ≡ size → (middle : List ℕ) → middle ≡ with_totals_of store letter (Some year) (with_year_of (totals_at store letter line.closed) end.paid end.loss)
           → (closed : Line) → closed ≡ with_closing_of line year end.closing → (later : List ℕ) → later ≡ with_line_of middle letter closed
-          → (r : Outcome) → r ≡ accepted_of book (answer.Tax letter year p o end.closing v) → Settled book (close_year letter year paid unpaid tabular) store r later
+          → (r : Outcome) → r ≡ accepted_of book (answer.Tax letter year o end) → Settled book (close_year letter year paid unpaid tabular) store r later
       unfolding accept book_settled store_settled line_of
       year_closed book n middle em closed ec later el r er =
-          rw (passes store line patterns letter year paid unpaid tabular pre book, er, el, em, ec, ep, ev, figures_are, eo)
+          rw (passes store line patterns letter year paid unpaid tabular pre book, er, el, em, ec, figures_are, eo)
           record {
             outcome = rw (year_register store letter year amount line totals pre.turned.sound.letter n closed_limited within_year, year_put store letter year amount line totals pre.turned.sound.letter n closed_limited within_year, line_is store letter line pre.turned.here, opening_is store letter line);
             own = refl;

@@ -1,17 +1,12 @@
 -- The patterns that the rows of a year take, by those that the line keeps. The year is that of the last pattern.
 -- Assumes nothing: these are definitions.
-use Rattle.std.specs.Prelude.{Bool, List, ◌≡◌, ℕ, suc, ◌-◌, ◌<◌, eqb, ltb, length, drop, take, get_or, if◌then◌else◌}
+use Rattle.std.specs.Prelude.{Bool, List, ◌≡◌, ℕ, suc, ◌-◌, ◌<◌, eqb, ltb, drop, take, get_or, if◌then◌else◌}
 use Rattle.std.specs.List.{list_all}
 use Rattle.model.specs.Letter.{ages}
 use Rattle.model.specs.Row.{gross}
 use Rattle.reserve.specs.Lists.{stated_rows}
 use Rattle.line_limits.specs.declared.line.Patterns.{Patterns}
 use Rattle.state.specs.Patterns.{factor_at}
-
--- a stated and a disclosed amount for each row
-pub record Paired (letter : ℕ) (unpaid tabular : List ℕ) : Type 0 where
-  pub unpaid_rows : length unpaid ≡ suc (ages letter)
-  pub tabular_rows : length tabular ≡ suc (ages letter)
 
 -- question 13: no age row past the patterns has gross
 unfoldable pub have_patterns : ℕ → ℕ → List ℕ → List ℕ → Bool

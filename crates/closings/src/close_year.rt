@@ -1,7 +1,7 @@
 // "YEAR, letter, year, then paid, unpaid, tabular for each age, prior row last"
 ghost use Rattle.std.specs.Prelude.{◌≡◌};
 ghost use Rattle.model.specs.Call.{close_year};
-ghost use Rattle.model.specs.Question.{Sound};
+ghost use Rattle.model.specs.Question.{Sound, is_within_limits};
 ghost use Rattle.model.specs.Step.{as_numbers};
 ghost use Rattle.ledger.specs.Does.{Does, Settled};
 ghost use Rattle.state.specs.Lines.{with_closing_of};
@@ -34,19 +34,23 @@ pub fn close_year(
 ) -> Outcome
     ensures { Does book (as_numbers (close_year letter year paid.now unpaid.now tabular.now)) store.old result store.new }
 {
-    if is_covered(letter) {
-        if has_lengths(letter, paid, unpaid, tabular) {
-            if Year::contains(year) {
-                if has_limits(paid, unpaid, tabular) {
-                    return ask_declared(book, store, letter, year, paid, unpaid, tabular);
-                }
-                return refuse(book, Refusal::OutsideLimits);
-            }
-            return refuse(book, Refusal::OutsideLimits);
-        }
+    if !is_covered(letter) {
+        return refuse(book, Refusal::UncoveredLetter);
+    }
+    if !has_lengths(letter, paid, unpaid, tabular) {
         return refuse(book, Refusal::WrongCount);
     }
-    refuse(book, Refusal::UncoveredLetter)
+    if !is_within_limits(year, paid, unpaid, tabular) {
+        return refuse(book, Refusal::OutsideLimits);
+    }
+    ask_declared(book, store, letter, year, paid, unpaid, tabular)
+}
+
+// "6. Is every number within its limits?"
+fn is_within_limits(year: u64, paid: &[i64], unpaid: &[u64], tabular: &[u64]) -> bool
+    ensures { result ≡ is_within_limits (close_year 0 year paid.now unpaid.now tabular.now) }
+{
+    Year::contains(year) && has_limits(paid, unpaid, tabular)
 }
 
 // "8. PATT, YEAR: is the line declared?" "10. .. YEAR: is it the year of the last pattern, not yet closed?", and on.
@@ -63,15 +67,15 @@ fn ask_declared(
     ensures { Settled book (close_year letter year paid.now unpaid.now tabular.now) store.old result store.new }
 {
     let line = line_of(store, letter);
-    if line.opening.is_some() {
-        let Some(patterns) = due(line, year) else {
-            return refuse(book, Refusal::OutOfTurn);
-        };
-        return ask_patterns(
-            book, store, line, patterns, letter, year, paid, unpaid, tabular,
-        );
+    if line.opening.is_none() {
+        return refuse(book, Refusal::NotDeclared);
     }
-    refuse(book, Refusal::NotDeclared)
+    let Some(patterns) = due(line, year) else {
+        return refuse(book, Refusal::OutOfTurn);
+    };
+    ask_patterns(
+        book, store, line, patterns, letter, year, paid, unpaid, tabular,
+    )
 }
 
 // "is it the year of the last pattern, not yet closed?": the patterns of a year that is.
@@ -102,12 +106,12 @@ fn ask_patterns(
     requires { Turned store.old line patterns letter year paid.now unpaid.now tabular.now }
     ensures { Settled book (close_year letter year paid.now unpaid.now tabular.now) store.old result store.new }
 {
-    if have_patterns(letter, patterns, unpaid, tabular) {
-        return end_year(
-            book, store, line, patterns, letter, year, paid, unpaid, tabular,
-        );
+    if !have_patterns(letter, patterns, unpaid, tabular) {
+        return refuse(book, Refusal::NoPattern);
     }
-    refuse(book, Refusal::NoPattern)
+    end_year(
+        book, store, line, patterns, letter, year, paid, unpaid, tabular,
+    )
 }
 
 // The closing and the totals kept, and the tax-basis loss.
@@ -128,17 +132,15 @@ fn end_year(
     let factors = row_factors(store, letter, patterns);
     let opening = opening_of(line);
     let end = year_end(letter, paid, unpaid, tabular, &factors, opening).unwrap();
-    add_year(store, letter, line.closed, year, end.paid, end.loss);
+    add_year(store, letter, line.closed, year, end);
     keep_line(store, letter, with_closing(line, year, end.closing));
     accept(
         book,
         Answer::Tax {
             letter,
             year,
-            paid: end.paid,
             opening,
-            closing: end.closing,
-            loss: end.loss,
+            end,
         },
     )
 }

@@ -1,7 +1,7 @@
 // The patterns that the rows of a year take.
 ghost use Rattle.std.specs.Prelude.{◌≡◌};
 ghost use Rattle.model.specs.Letter.{ages};
-ghost use Rattle.closings.specs.Rows.{have_patterns, row_factor_of, FactorsOf, Paired};
+ghost use Rattle.closings.specs.Rows.{have_patterns, row_factor_of, FactorsOf};
 
 use letters::letter::ages;
 use line_limits::line::Patterns;
@@ -11,16 +11,14 @@ use year_rows::questions::has_gross;
 
 // "13. YEAR: has every age row with gross above 0 a kept pattern?": the last pattern's year is the year, so the first rows have one.
 pub fn have_patterns(letter: u8, patterns: Patterns, unpaid: &[u64], tabular: &[u64]) -> bool
-    requires { Paired letter unpaid.now tabular.now }
     ensures { result ≡ have_patterns patterns.count (ages letter) unpaid.now tabular.now }
 {
-    let ages = ages(letter);
-    for k in patterns.count as usize..ages {
-        if has_gross(unpaid[k], tabular[k]) {
-            return false;
-        }
-    }
-    true
+    unpaid
+        .iter()
+        .zip(tabular)
+        .take(ages(letter))
+        .skip(patterns.count as usize)
+        .all(|(&stated, &disclosed)| !has_gross(stated, disclosed))
 }
 
 // "Row of age a in year Y takes the pattern of accident year Y - a + 1; the prior row takes the composite of accident year Y.": at place k, with the last pattern's year as Y.

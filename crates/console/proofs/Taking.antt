@@ -1,18 +1,19 @@
 -- A piece, part after part; piece after piece; and the end of input: what is handed to the writes.
 -- Assumes nothing.
-use Rattle.std.proofs.Common.{List, [], ◌++◌, ◌≡◌, ap, ◌∙◌, ℕ, ◌≤◌, length, take}
+use Rattle.std.proofs.Common.{List, ◌++◌, ◌≡◌, ap, ◌∙◌, ℕ, ◌≤◌, arith, length, take}
 use Rattle.model.specs.Book.{Book}
 use Rattle.model.specs.Answer.{done_text}
 use Rattle.model.specs.Run as model
 use Rattle.state.specs.declared.book.Book as code
+use Rattle.pieces.specs.declared.answer_line.Answered.{Answered}
 use Rattle.pieces.specs.declared.feed.Run.{Run}
 use Rattle.pieces.specs.declared.feed.Fed.{Fed}
-use Rattle.pieces.specs.Progress.{Progress, taking_all}
-use Rattle.pieces.specs.Feed.{text_of, Leads, IsStart, Feeds, Closes, PutsDone}
+use Rattle.pieces.specs.Progress.{Progress}
+use Rattle.pieces.specs.Feed.{text_of, Leads, Feeds, Closes, PutsDone}
 use Rattle.pieces.proofs.Joining.{front_length}
 use Rattle.pieces.proofs.Ran.{all_written_lem}
 use Rattle.pieces.proofs.Taken.{taken_few, taken_some}
-use Rattle.pieces.proofs.Written.{leads_none, leads_on, feed_leads}
+use Rattle.pieces.proofs.Written.{text_put, put_inside, leads_on, feed_leads}
 use Rattle.console.specs.Take.{Takes, TakesPart, Led}
 use Rattle.console.specs.Write.{last_answer, last_counts}
 
@@ -27,21 +28,38 @@ takes_on run store bytes middle middle_store t more later later_store m =
     leads_text _ _ _ _ _ _ (leads_on run store bytes _ middle middle_store t more _ later later_store m)
 
 -- a part of a piece
-module _ (size : ℕ) (run : Run) (store piece : List ℕ) (r : Fed) (later_store later_out : List ℕ) (f : Feeds size run store piece r later_store later_out) where
+module _ (run : Run) (store piece out : List ℕ) (r : Fed) (later_store later_out : List ℕ) (f : Feeds run store piece out r later_store later_out) where
   pub part_exact : r.taken ≡ length (take r.taken piece)
   part_exact = front_length r.taken piece (taken_few _ _ _ _ _ _ _ f)
 
-  pub takes_part : 320 ≤ size → TakesPart run store piece r later_store
-  takes_part room =
+  pub part_inside : length later_out ≡ 65536 → r.put ≤ 65536
+  part_inside size = omega (arith, size, put_inside out _ later_out r.put f.reached.puts)
+
+  pub part_put : take r.put later_out ≡ text_of run store (take r.taken piece)
+  part_put = text_put out _ later_out r.put f.reached.puts
+
+  pub takes_part : length out ≡ 65536 → TakesPart run store piece r later_store
+  takes_part size =
       record {
         few = taken_few _ _ _ _ _ _ _ f;
-        some = taken_some _ _ _ _ _ _ _ f room;
+        some = taken_some _ _ _ _ _ _ _ f (omega (arith, size));
         takes = leads_text _ _ _ _ _ _ (feed_leads _ _ _ _ _ _ _ f);
       }
 
--- the end of input: DONE has the counts of the last book
-pub done_put : (run : Run) (store : List ℕ) (book : code.Book) (later_store later_out : List ℕ) → Closes run store book later_store later_out → (last_out : List ℕ) → PutsDone book last_out → last_out ≡ last_counts run store
-done_put run store book later_store later_out c last_out d = d.puts ∙ ap (λ (b : Book). done_text b.accepted b.refused) c.reached.later
+-- the end of input
+module _ (run : Run) (store out : List ℕ) (last : Answered) (later_store later_out : List ℕ) (c : Closes run store out last later_store later_out) where
+  pub last_inside : length later_out ≡ 65536 → last.next ≤ 65536
+  last_inside size = omega (arith, size, put_inside out _ later_out last.next c.reached.puts)
+
+  pub last_put : take last.next later_out ≡ last_answer run store
+  last_put = text_put out _ later_out last.next c.reached.puts
+
+  -- DONE has the counts of the last book
+  pub done_put : (done_out : List ℕ) (put : ℕ) (last_out : List ℕ) → PutsDone last.book done_out put last_out → take put last_out ≡ last_counts run store
+  done_put done_out put last_out d = text_put done_out _ last_out put d.puts ∙ ap (λ (b : Book). done_text b.accepted b.refused) c.reached.later
+
+pub done_inside : (book : code.Book) (done_out : List ℕ) (put : ℕ) (last_out : List ℕ) → PutsDone book done_out put last_out → length last_out ≡ 65536 → put ≤ 65536
+done_inside book done_out put last_out d size = omega (arith, size, put_inside done_out _ last_out put d.puts)
 
 -- The answers to all pieces, the answer to the last line and DONE are together the model's run of the input.
 -- (The answers to the parts, one after the other, are those to all of them: `texts_join` of pieces.)

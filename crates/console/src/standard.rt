@@ -7,7 +7,6 @@ ghost use Rattle.console.specs.Through.{Through};
 ghost use Rattle.console.specs.Write.{last_answer, last_counts};
 
 use crate::write::{Asked, write_text};
-use arrayvec::ArrayVec;
 use pieces::feed::{Fed, Run, close, done, feed, start};
 use state::store::{CELLS, Store};
 use std::io::{self, ErrorKind, Read, Write};
@@ -31,7 +30,7 @@ pub fn answer_all<R: Read, W: Write>(input: &mut R, output: &mut W) -> Ended
     let mut store = [0u64; CELLS];
     let mut so_far = start(&mut store);
     let mut piece = [0u8; 65536];
-    let mut out = ArrayVec::new();
+    let mut out = [0u8; 65536];
     let mut read = false;
     // A proved loop has to end: no run makes so many turns.
     for _ in 0..u64::MAX {
@@ -75,7 +74,7 @@ fn take_piece<W: Write>(
     run: Run,
     store: &mut Store,
     piece: &[u8],
-    out: &mut ArrayVec<u8, 65536>,
+    out: &mut [u8; 65536],
     output: &mut W,
 ) -> io::Result<Run>
     ensures takes { IfOk result (λ later. Takes run store.old piece.now later store.new) }
@@ -96,7 +95,7 @@ fn take_part<W: Write>(
     run: Run,
     store: &mut Store,
     piece: &[u8],
-    out: &mut ArrayVec<u8, 65536>,
+    out: &mut [u8; 65536],
     output: &mut W,
 ) -> io::Result<Fed>
     ensures takes { IfOk result (λ fed. TakesPart run store.old piece.now fed store.new) }
@@ -105,7 +104,7 @@ fn take_part<W: Write>(
     let before = *store;
     let fed = feed(run, store, piece, out);
     let asked = Asked::Bytes(&piece[..fed.taken]);
-    write_text(output, out.as_slice(), asked, &run, &before)?;
+    write_text(output, &out[..fed.put], asked, &run, &before)?;
     Ok(fed)
 }
 
@@ -113,15 +112,15 @@ fn take_part<W: Write>(
 fn finish<W: Write>(
     run: Run,
     store: &mut Store,
-    out: &mut ArrayVec<u8, 65536>,
+    out: &mut [u8; 65536],
     output: &mut W,
 ) -> io::Result<()>
     requires { Led run store.old }
     ensures { OnOk result (Appends (W.contents output.old) (W.contents output.new) (last_answer run store.old ++ last_counts run store.old)) }
 {
     let before = *store;
-    let book = close(run, store, out);
-    write_text(output, out.as_slice(), Asked::LastLine, &run, &before)?;
-    done(book, out);
-    write_text(output, out.as_slice(), Asked::Counts, &run, &before)
+    let last = close(run, store, out);
+    write_text(output, &out[..last.next], Asked::LastLine, &run, &before)?;
+    let put = done(last.book, out);
+    write_text(output, &out[..put], Asked::Counts, &run, &before)
 }

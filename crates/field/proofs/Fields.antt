@@ -1,7 +1,7 @@
 -- The fields of a line, one after the other.
 -- Assumes nothing.
-use Rattle.std.specs.Prelude.{if◌then◌else◌}
-use Rattle.std.specs.List.{filter}
+use Rattle.std.specs.Prelude.{if◌then◌else◌, Option, None, Some}
+use Rattle.std.specs.List.{filter, position}
 use mathlib.Core.Bool.{Bool, true, false}
 use mathlib.Core.Path.{◌≡◌, refl, sym, ap, ◌∙◌}
 use mathlib.Core.List.{List, [], ◌∷◌}
@@ -14,7 +14,7 @@ use lib.Seq.{drop-drop, take_all}
 use Rattle.model.specs.Input.{push}
 use Rattle.model.specs.Field.{fields, field}
 use Rattle.field.specs.Place.{At, Starts}
-use Rattle.field.proofs.Scan.{is_tab, before, first_field}
+use Rattle.field.proofs.Scan.{is_tab, before, first_field, tab_found, no_tab}
 
 fields_cons : (b : ℕ) (bs : List ℕ) → fields (b ∷ bs) ≡ (if eqb b 9 then [] ∷ fields bs else push b (fields bs))
 unfolding fields
@@ -123,10 +123,15 @@ alone : (s : List ℕ) → length (fields s) ≤ 1 → before s ≡ s
 alone [] h = refl
 alone (b ∷ bs) h = alone_by b bs (eqb b 9) refl h (alone bs)
 
-pub first_starts : (s : List ℕ) → Starts s 0 0
-first_starts s = record { here = λ lt. record { inside = omega arith; there = refl }; past = λ le. absurd (omega (arith, some_field s)) }
+-- where the field at place k begins; just past the line's end where there is no such field
+pub record Begins (s : List ℕ) (k at : ℕ) : Type 0 where
+  pub here : k < length (fields s) → At s (drop k (fields s)) at
+  pub past : length (fields s) ≤ k → at ≡ suc (length s)
 
-module _ (s : List ℕ) (k at : ℕ) (h : Starts s k at) where
+pub begins_there : (s : List ℕ) (k at : ℕ) → Starts s k (Some at) → Begins s k at
+begins_there s k at h = record { here = λ lt. h.1; past = λ le. absurd (omega (arith, h.0)) }
+
+module _ (s : List ℕ) (k at : ℕ) (h : Begins s k at) where
   -- inside the line there is a field
   pub has_field : at ≤ length s → k < length (fields s)
   has_field le = by_contra (suc k) (length (fields s)) (λ (l : length (fields s) < suc k). omega (arith, h.past (omega arith)))
@@ -142,21 +147,57 @@ module _ (s : List ℕ) (k at : ℕ) (h : Starts s k at) where
         let n : length (fields (drop at s)) ≤ 1 = rw (h.here lt).there (omega (arith, length-drop k (fields s))) in
         omega (arith, ap length (rest_of s at f ef), ap length (alone (drop at s) n), length-drop at s)
 
-    pub next_starts : Starts s (k + 1) (at + (length f + 1))
-    next_starts =
+    pub next_begins : Begins s (k + 1) (at + (length f + 1))
+    next_begins =
         record {
           here = λ lt. rw (← drop-drop 1 k (fields s)) (next_field s (drop k (fields s)) at f (h.here (has_field le)) ef (omega (arith, length-drop k (fields s))));
           past = last;
         }
 
--- the loop over fields: k of them are passed
+-- after a tab there is a field more, and without one there is none
+more_by : (b : ℕ) (bs : List ℕ) (t : Bool) → eqb b 9 ≡ t → length (before (b ∷ bs)) < length (b ∷ bs) → (length (before bs) < length bs → 1 < length (fields bs)) → 1 < length (fields (b ∷ bs))
+more_by b bs true e h ih = rw (fields_cons b bs, e) (omega (arith, some_field bs))
+more_by b bs false e h ih =
+    let n : length (before (b ∷ bs)) ≡ suc (length (before bs)) = rw e in
+    rw (fields_cons b bs, e, push_long b (fields bs) (some_field bs)) (ih (omega arith))
+
+more_fields : (s : List ℕ) → length (before s) < length s → 1 < length (fields s)
+more_fields [] h = absurd (omega arith)
+more_fields (b ∷ bs) h = more_by b bs (eqb b 9) refl h (more_fields bs)
+
+no_more : (s : List ℕ) → length s ≤ length (before s) → length (fields s) ≤ 1
+no_more s le = by_contra (length (fields s)) 1 (λ (l : 1 < length (fields s)). omega (arith, (split s l).within))
+
+-- the loop over fields: k of them are passed, and there is one more
 pub record Passing (s : List ℕ) (place at k : ℕ) : Type 0 where
   pub upto : k ≤ place
-  pub starts : Starts s k at
+  pub there : k < length (fields s)
+  pub here : At s (drop k (fields s)) at
 
 pub pass_start : (s : List ℕ) (place : ℕ) → Passing s place 0 0
-pass_start s place = record { upto = omega arith; starts = first_starts s }
+pass_start s place = record { upto = omega arith; there = some_field s; here = record { inside = omega arith; there = refl } }
 
 module _ (s : List ℕ) (place at k : ℕ) (p : Passing s place at k) where
-  pub pass_on : at ≤ length s → (f : List ℕ) → f ≡ field 0 (fields (take (length s - at) (drop at s))) → k < place → Passing s place (at + (length f + 1)) (k + 1)
-  pass_on le f ef lt = record { upto = omega arith; starts = next_starts s k at p.starts le f ef }
+  pub pass_end : place ≤ k → Starts s place (Some at)
+  pass_end le = let same : place ≡ k = omega (arith, p.upto) in rw same (p.there, p.here)
+
+  pub pass_none : k < place → None ≡ position is_tab (take (length s - at) (drop at s)) → (r : Option ℕ) → r ≡ None → Starts s place r
+  pass_none lt e r er =
+      let few = no_more (drop at s) (no_tab (drop at s) (rw (rest_whole s at) at e)) in
+      rw er (omega (arith, ap length p.here.there, few, length-drop k (fields s)))
+
+  module _ (lt : k < place) (tab : ℕ) (e : Some tab ≡ position is_tab (take (length s - at) (drop at s))) where
+    found : (tab ≡ length (before (drop at s))) × (tab < length (drop at s))
+    found = tab_found (drop at s) tab (rw (rest_whole s at) at e)
+
+    pub pass_fits : at + (tab + 1) ≤ length s
+    pass_fits = omega (arith, found.1, length-drop at s, p.here.inside)
+
+    pub pass_on : Passing s place (at + (tab + 1)) (k + 1)
+    pass_on =
+        let more : 1 < length (drop k (fields s)) = rw p.here.there at (more_fields (drop at s) (omega (arith, found.0, found.1))) in
+        record {
+          upto = omega arith;
+          there = omega (arith, more, length-drop k (fields s));
+          here = rw (← drop-drop 1 k (fields s), found.0) (next_field s (drop k (fields s)) at (before (drop at s)) p.here (rw (rest_whole s at) (sym (first_field (drop at s)))) more);
+        }

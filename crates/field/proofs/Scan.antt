@@ -1,13 +1,13 @@
 -- The first tab.
 -- Assumes nothing.
-use Rattle.std.specs.Prelude.{if◌then◌else◌, Option, None, Some}
-use Rattle.std.specs.List.{position_or_len}
+use Rattle.std.specs.Prelude.{if◌then◌else◌, None, Some}
+use Rattle.std.specs.List.{position, position_or_len}
 use mathlib.Core.Bool.{Bool, true, false, cond}
-use mathlib.Core.Path.{◌≡◌, refl, sym, ap}
+use mathlib.Core.Path.{◌≡◌, refl, sym, ap, ◌∙◌}
 use mathlib.Core.List.{List, [], ◌∷◌}
-use Prim.Native.Nat.{ℕ, suc, ◌+◌}
+use Prim.Native.Nat.{ℕ, suc, ◌+◌, ◌≤◌, ◌<◌}
 use native.Mathlib.Omega.{arith}
-use borrow.Author.Tests.{ltb-false}
+use borrow.Author.Tests.{ltb-true, ltb-false}
 use lib.Dec.{eqb, ltb}
 use lib.ListN.{length, take}
 use lib.Seq.{take_all}
@@ -48,20 +48,33 @@ to_tab : (s : List ℕ) → before s ≡ take (position_or_len is_tab s) s
 to_tab [] = refl
 to_tab (b ∷ bs) = to_tab_by b bs (eqb b 9) refl (to_tab bs)
 
--- what `position` answers
-abbrev Found : List ℕ → Option ℕ → Bool → Type 0
-Found s found inside = found ≡ cond inside (Some (position_or_len is_tab s)) None
+-- that part is as long as the place of the tab
+long_by : (b : ℕ) (bs : List ℕ) (t : Bool) → eqb b 9 ≡ t → length (before bs) ≡ position_or_len is_tab bs → length (before (b ∷ bs)) ≡ position_or_len is_tab (b ∷ bs)
+long_by b bs true e h = rw e
+long_by b bs false e h = rw e (omega arith)
 
-pub first_is : (s : List ℕ) (place : ℕ) → Found s (Some place) (ltb (position_or_len is_tab s) (length s)) → take place s ≡ field 0 (fields s)
-first_is s place e = is_by (ltb (position_or_len is_tab s) (length s)) e
-  where
-    is_by : (t : Bool) → Found s (Some place) t → take place s ≡ field 0 (fields s)
-    is_by true q = let same : place ≡ position_or_len is_tab s = cc in rw (first_field s, to_tab s, same)
-    is_by false q = absurd (Some≢None place q)
+pub before_long : (s : List ℕ) → length (before s) ≡ position_or_len is_tab s
+before_long [] = refl
+before_long (b ∷ bs) = long_by b bs (eqb b 9) refl (before_long bs)
 
-pub first_whole : (s : List ℕ) → Found s None (ltb (position_or_len is_tab s) (length s)) → s ≡ field 0 (fields s)
-first_whole s e = whole_by (ltb (position_or_len is_tab s) (length s)) refl e
-  where
-    whole_by : (t : Bool) → ltb (position_or_len is_tab s) (length s) ≡ t → Found s None t → s ≡ field 0 (fields s)
-    whole_by true q e = absurd (Some≢None (position_or_len is_tab s) (sym e))
-    whole_by false q e = rw (first_field s, to_tab s) (sym (take_all (position_or_len is_tab s) s (ltb-false (position_or_len is_tab s) (length s) q)))
+-- there is a tab, at the end of that part, or there is none
+tab_by : (s : List ℕ) (tab : ℕ) (t : Bool) → ltb (position_or_len is_tab s) (length s) ≡ t → Some tab ≡ cond t (Some (position_or_len is_tab s)) None → (tab ≡ length (before s)) × (tab < length s)
+tab_by s tab true q e = let same : tab ≡ position_or_len is_tab s = cc in (same ∙ sym (before_long s), rw same (ltb-true (position_or_len is_tab s) (length s) q))
+tab_by s tab false q e = absurd (Some≢None tab e)
+
+pub tab_found : (s : List ℕ) (tab : ℕ) → Some tab ≡ position is_tab s → (tab ≡ length (before s)) × (tab < length s)
+tab_found s tab e = tab_by s tab (ltb (position_or_len is_tab s) (length s)) refl e
+
+none_by : (s : List ℕ) (t : Bool) → ltb (position_or_len is_tab s) (length s) ≡ t → None ≡ cond t (Some (position_or_len is_tab s)) None → length s ≤ length (before s)
+none_by s true q e = absurd (Some≢None (position_or_len is_tab s) (sym e))
+none_by s false q e = rw (before_long s) (ltb-false (position_or_len is_tab s) (length s) q)
+
+pub no_tab : (s : List ℕ) → None ≡ position is_tab s → length s ≤ length (before s)
+no_tab s e = none_by s (ltb (position_or_len is_tab s) (length s)) refl e
+
+-- the first field, up to the tab or whole
+pub first_is : (s : List ℕ) (tab : ℕ) → Some tab ≡ position is_tab s → take tab s ≡ field 0 (fields s)
+first_is s tab e = let same : tab ≡ position_or_len is_tab s = (tab_found s tab e).0 ∙ before_long s in rw (first_field s, to_tab s, same)
+
+pub first_whole : (s : List ℕ) → None ≡ position is_tab s → s ≡ field 0 (fields s)
+first_whole s e = rw (first_field s, to_tab s) (sym (take_all (position_or_len is_tab s) s (omega (arith, no_tab s e, before_long s))))

@@ -37,10 +37,6 @@ is_lettered model.SUM l = covered l
 is_lettered model.MIDT l = true
 is_lettered model.OTHER l = false
 
--- a byte that is a covered letter
-abbrev pub covered_letter : ℕ → Option ℕ
-covered_letter l = if covered l then Some l else None
-
 -- the request of a kind of record, with the byte of its letter where it has one; another word asks nothing
 abbrev pub request : model.Word → ℕ → Option Request
 request model.LINE l = Some (Declare l)

@@ -20,9 +20,6 @@ pub fn letter_of(line: &[u8]) -> Option<u8>
     ensures letter { unwrap_or result 0 ≡ letter_in (fields line.now) }
     ensures alone { is_some result ≡ eqb (length (field 1 (fields line.now))) 1 }
 {
-    let at = start(line, 1);
-    if at > line.len() {
-        return None;
-    }
+    let at = start(line, 1)?;
     only_byte(first(&line[at..]))
 }

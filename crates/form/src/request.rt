@@ -3,7 +3,8 @@ ghost use Rattle.std.specs.Prelude.{◌≡◌, Some, length};
 ghost use Rattle.model.specs.Field.{fields, letter_in};
 ghost use Rattle.model.specs.Record.{form_of, field_count, first_number, allows_minus};
 ghost use Rattle.form.specs.Word.{named};
-ghost use Rattle.form.specs.Request.{kind, letter, covered_letter, requested};
+ghost use Rattle.form.specs.Request.{kind, letter, requested};
+ghost use Rattle.letters.specs.Covered.{covered_letter};
 
 use crate::letter::letter_of;
 use crate::word::Word;
@@ -28,11 +29,7 @@ fn covered_letter(line: &[u8]) -> Option<u8>
     ensures { result ≡ covered_letter (letter_in (fields line.now)) }
 {
     let letter = letter_of(line)?;
-    if is_covered(letter) {
-        Some(letter)
-    } else {
-        None
-    }
+    is_covered(letter).then_some(letter)
 }
 
 // What a record of the word asks, if its letter is covered where it must have one. RATE has two forms (F-4): "RATE with a year alone" has two fields.

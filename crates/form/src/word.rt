@@ -14,22 +14,17 @@ pub enum Word {
 }
 
 // Which of the six words the field is, if any.
+#[tactic(auto, using(crate::proofs::Words::word_spelled, crate::proofs::Words::too_short, crate::proofs::Words::too_long, crate::proofs::Words::other_three, crate::proofs::Words::other_first, crate::proofs::Words::other_year, crate::proofs::Words::other_month, crate::proofs::Words::other_middle))]
 pub fn word_of(field: &[u8]) -> Option<Word>
     ensures { named result ≡ word_of field.now }
 {
-    if field == b"LINE".as_slice() {
-        Some(Word::Line)
-    } else if field == b"RATE".as_slice() {
-        Some(Word::Rate)
-    } else if field == b"PATT".as_slice() {
-        Some(Word::Patt)
-    } else if field == b"YEAR".as_slice() {
-        Some(Word::Year)
-    } else if field == b"SUM".as_slice() {
-        Some(Word::Sum)
-    } else if field == b"MIDT".as_slice() {
-        Some(Word::Midt)
-    } else {
-        None
+    match field {
+        b"LINE" => Some(Word::Line),
+        b"RATE" => Some(Word::Rate),
+        b"PATT" => Some(Word::Patt),
+        b"YEAR" => Some(Word::Year),
+        b"SUM" => Some(Word::Sum),
+        b"MIDT" => Some(Word::Midt),
+        _ => None,
     }
 }

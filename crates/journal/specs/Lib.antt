@@ -1,1 +1,2 @@
+pub mod ColumnOf
 pub mod InTurn

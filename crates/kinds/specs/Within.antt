@@ -5,7 +5,7 @@ use Rattle.std.proofs.Math.Dec.{leb-zero}
 use mathlib.Core.Path.{ap, sym}
 
 -- the number, where the kind allows it
-abbrev pub within : (ℕ → Bool) → ℕ → Option ℕ
+abbrev pub within : {X : Type 0} → (X → Bool) → X → Option X
 within allow n = if allow n then Some n else None
 
 -- from 0 on only the most is a limit

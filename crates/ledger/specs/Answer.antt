@@ -21,8 +21,8 @@ answered (answer.Rate year rate) store = model.rated year rate
 answered (answer.Fact letter year) store =
     let pattern = pattern_at store letter year in
     model.fact letter year (map published pattern.factors) (published pattern.composite)
-answered (answer.Tax letter year paid opening closing loss) store = model.tax letter year paid opening closing loss
-answered (answer.Sum letter years paid losses) store = model.summed letter years paid losses
+answered (answer.Tax letter year opening end) store = model.tax letter year end.paid opening end.closing end.loss
+answered (answer.Sum letter totals) store = model.summed letter totals.years totals.paid totals.losses
 answered (answer.MidTerm year month rate) store = model.registered year month rate
 answered (answer.No refusal) store = model.refusal (number_of refusal)
 

@@ -1,5 +1,7 @@
 // What a record is answered, and the book that it leaves.
+use line_limits::totals::Totals;
 use refusal::Refusal;
+use reserve::year_end::YearEnd;
 use state::book::Book;
 
 // A Fact is of the pattern that the store keeps of that letter and year, so its text is put before the next call.
@@ -20,16 +22,12 @@ pub enum Answer {
     Tax {
         letter: u8,
         year: u64,
-        paid: i64,
         opening: u64,
-        closing: u64,
-        loss: i64,
+        end: YearEnd,
     },
     Sum {
         letter: u8,
-        years: u64,
-        paid: i64,
-        losses: i64,
+        totals: Totals,
     },
     No(Refusal),
     MidTerm {

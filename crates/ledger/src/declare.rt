@@ -19,13 +19,13 @@ use state::store::Store;
 pub fn declare(book: Book, store: &mut Store, letter: u8, opening: u64) -> Outcome
     ensures { Does book (as_numbers (declare letter opening)) store.old result store.new }
 {
-    if is_covered(letter) {
-        if Opening::contains(opening) {
-            return ask_given(book, store, letter, opening);
-        }
+    if !is_covered(letter) {
+        return refuse(book, Refusal::UncoveredLetter);
+    }
+    if !Opening::contains(opening) {
         return refuse(book, Refusal::OutsideLimits);
     }
-    refuse(book, Refusal::UncoveredLetter)
+    ask_given(book, store, letter, opening)
 }
 
 // "7. LINE, RATE: is that line or that year's rate still to be given?"

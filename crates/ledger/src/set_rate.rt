@@ -20,12 +20,8 @@ pub fn set_rate(book: Book, store: &mut Store, year: u64, months: &[u64]) -> Out
     ensures { Does book (as_numbers (set_rate year months.now)) store.old result store.new }
 {
     match mean_rate(months) {
-        Ok(rate) => {
-            if Year::contains(year) {
-                return ask_given(book, store, year, rate, months);
-            }
-            refuse(book, Refusal::OutsideLimits)
-        }
+        Ok(rate) if Year::contains(year) => ask_given(book, store, year, rate, months),
+        Ok(_) => refuse(book, Refusal::OutsideLimits),
         Err(refusal) => refuse(book, refusal),
     }
 }

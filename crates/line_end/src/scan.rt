@@ -37,15 +37,13 @@ fn skip_blocks(input: &[u8], start: usize) -> usize
     at
 }
 
-// Does a byte of a block end a line? By an `or` of all of them: `any` would stop at the first, with a branch at each.
+// Does a byte of a block end a line? All of them are looked at: `any` would stop at the first, with a branch at each.
 fn has_end(block: &[u8]) -> bool
     ensures { result ≡ among 10 block.now }
 {
-    let mut found = false;
-    for byte in block {
-        found |= *byte == 10;
-    }
-    found
+    block
+        .iter()
+        .fold(false, |found, byte| found | (*byte == 10))
 }
 
 // The place of the first byte that ends a line, or the number of bytes where none does: they are looked at from the last to the first.

@@ -27,11 +27,7 @@ pub fn line_in(letter: u8, cells: [u64; 6]) -> Line
 fn opening_in(mark: u64, cell: u64) -> Option<u64>
     ensures { result ≡ opening_in mark cell }
 {
-    if mark > 0 {
-        Some(cell.min(OpeningLimits::MOST))
-    } else {
-        None
-    }
+    (mark > 0).then_some(cell.min(OpeningLimits::MOST))
 }
 
 // The last closed year is read only where a pattern is kept, and not after that pattern's year.
@@ -39,23 +35,15 @@ fn closed_in(patterns: Option<Patterns>, year: u64) -> Option<u64>
     ensures { result ≡ closed_in patterns year }
 {
     let last = patterns?.last;
-    if year <= last && Year::contains(year) {
-        Some(year)
-    } else {
-        None
-    }
+    (year <= last && Year::contains(year)).then_some(year)
 }
 
 // The patterns that a line keeps: none where the year of its last one is no year, and at most one for each age.
 fn patterns_in(letter: u8, last: u64, cell: u64) -> Option<Patterns>
     ensures { result ≡ patterns_in letter last cell }
 {
-    if cell > 0 && Year::contains(last) {
-        Some(Patterns {
-            last,
-            count: cell.min(ages(letter) as u64),
-        })
-    } else {
-        None
-    }
+    (cell > 0 && Year::contains(last)).then(|| Patterns {
+        last,
+        count: cell.min(ages(letter) as u64),
+    })
 }

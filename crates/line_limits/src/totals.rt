@@ -47,10 +47,9 @@ pub fn total_cells(closed: Option<u64>, totals: Totals) -> [u64; 3]
 fn years_through(closed: Option<u64>) -> u64
     ensures { (result ≡ years_through closed) × (result ≤ 113) }
 {
-    match closed {
-        Some(year) if Year::contains(year) => year - YearLimits::LEAST + 1,
-        _ => 0,
-    }
+    closed
+        .and_then(Year::new)
+        .map_or(0, |year| year.number() - YearLimits::LEAST + 1)
 }
 
 // The total that a cell has as its distance from the least one: past the limit it is read as the limit.

@@ -14,6 +14,8 @@ use Rattle.model.specs.Call.{set_rate_from_register}
 use Rattle.model.specs.Question.{book_questions, first_no}
 use Rattle.model.specs.Step.{as_numbers, months_taken, accept}
 use Rattle.model.proofs.Months.{dates, all_pass}
+use Rattle.kinds.specs.Within.{within}
+use Rattle.kinds.proofs.Taken.{taken, outside}
 use Rattle.rates.specs.Rate.{mean_of}
 use Rattle.refusal.specs.declared.Refusal.{Refusal}
 use Rattle.refusal.specs.declared.Refusal.TheVariants as refusal
@@ -28,19 +30,17 @@ use Rattle.ledger.specs.Answer.{refused_of}
 use Rattle.ledger.specs.Does.{book_settled, store_settled, Settled, Does}
 use Rattle.ledger.specs.SetRate.{GivesRate}
 use Rattle.ledger.proofs.RateSet.{mean_is, mean_small, rate_shown}
-use Rattle.mid_term.specs.FromRegister.{ToBeGiven}
 use Rattle.ledger.proofs.Settling.{refused, limits_refused, goes_on}
 
 -- question 6
-pub is_within : (year : ℕ) (t : Bool) → t ≡ is_year year → t ≡ true → is_year year ≡ true
-is_within year t et y = sym et ∙ y
+module _ (year : ℕ) (o : Option ℕ) (eo : o ≡ within is_year year) (book : Book) (store : List ℕ) (r : Outcome) where
+  pub year_on : (v : ℕ) → o ≡ Some v → (later : List ℕ) → Settled book (set_rate_from_register v) store r later → Does book (as_numbers (set_rate_from_register year)) store r later
+  year_on v ev later h =
+      let t = taken is_year year v (sym eo ∙ ev) in
+      goes_on book (set_rate_from_register year) store r (record { letter = refl; lengths = refl; limits = t.0 }) later (rw t.1 at h)
 
-module _ (year : ℕ) (t : Bool) (et : t ≡ is_year year) (book : Book) (store : List ℕ) (r : Outcome) where
-  pub year_on : t ≡ true → (later : List ℕ) → Settled book (set_rate_from_register year) store r later → Does book (as_numbers (set_rate_from_register year)) store r later
-  year_on y later h = goes_on book (set_rate_from_register year) store r (record { letter = refl; lengths = refl; limits = sym et ∙ y }) later h
-
-  pub year_refused : t ≡ false → r ≡ refused_of book refusal.OutsideLimits → Does book (as_numbers (set_rate_from_register year)) store r store
-  year_refused y er = limits_refused book (set_rate_from_register year) store r true refl refl true refl refl t et y er
+  pub year_refused : o ≡ None → r ≡ refused_of book refusal.OutsideLimits → Does book (as_numbers (set_rate_from_register year)) store r store
+  year_refused e er = limits_refused book (set_rate_from_register year) store r true refl refl true refl refl (is_year year) refl (outside is_year year (sym eo ∙ e)) er
 
 and_true : (a b : Bool) → a ≡ true → (a && b) ≡ b
 and_true true b e = refl
@@ -54,52 +54,58 @@ module _ (book : Book) (year : ℕ) (store : List ℕ) where
   first_is None t e s = rw e (ap (λ (b : Bool). if b then None else Some 14) s)
   first_is (Some n) t e s = rw e
 
-  pub rate_given : (r : Outcome) (before : Option ℕ) → before ≡ rates_of book.rates year → (old : ℕ) → before ≡ Some old → r ≡ refused_of book refusal.AlreadyGiven → Settled book (set_rate_from_register year) store r store
-  rate_given r before eb old e er =
-      refused book refusal.AlreadyGiven (first_no (book_questions (view book store) (set_rate_from_register year))) (set_rate_from_register year) store r
-      (first_is (Some old) (list_all is_some (sixty_months (register_of store) year)) (sym eb ∙ e) refl) er
+  -- k is the number of the year
+  module _ (k : ℕ) (ek : k ≡ year) where
+    pub rate_given : (r : Outcome) (before : Option ℕ) → before ≡ rates_of book.rates k → (old : ℕ) → before ≡ Some old → r ≡ refused_of book refusal.AlreadyGiven → Settled book (set_rate_from_register year) store r store
+    rate_given r before eb old e er =
+        refused book refusal.AlreadyGiven (first_no (book_questions (view book store) (set_rate_from_register year))) (set_rate_from_register year) store r
+        (first_is (Some old) (list_all is_some (sixty_months (register_of store) year)) (rw (← ek) (sym eb ∙ e)) refl) er
 
-  pub rate_to_be_given : is_year year ≡ true → (before : Option ℕ) → before ≡ rates_of book.rates year → before ≡ None → ToBeGiven book year
-  rate_to_be_given y before eb e = record { within = y; free = sym eb ∙ e }
+    -- o is what the code finds of the sixty months
+    module _ (ik : is_year k ≡ true) (free : rates_of book.rates year ≡ None) (o : Option (List ℕ)) (ok : o ≡ given_sixty store k) where
+      y : is_year year ≡ true
+      y = rw (← ek) ik
 
-  -- o is what the code finds of the sixty months
-  module _ (p : ToBeGiven book year) (o : Option (List ℕ)) (eo : o ≡ given_sixty store year) where
-    all_given : (t : Bool) → has_sixty store year ≡ t → list_all is_some (sixty_months (register_of store) year) ≡ t
-    all_given t e = sym (sym e ∙ and_true (is_year year) (list_all is_some (sixty_months (register_of store) year)) p.within)
+      eo : o ≡ given_sixty store year
+      eo = rw (← ek) ok
 
-    found : (t : Bool) → has_sixty store year ≡ t → (months : List ℕ) → o ≡ Some months → (t ≡ true) × (months ≡ rates_taken store year)
-    found true e months f = let same : ◌≡◌ {A = Option (List ℕ)} (Some (rates_taken store year)) (Some months) = sym (eo ∙ rw e) ∙ f in (refl, sym (cc same))
-    found false e months f = let none : ◌≡◌ {A = Option (List ℕ)} None (Some months) = sym (eo ∙ rw e) ∙ f in (let z : ◌≡◌ {A = ℕ} 0 1 = cc in absurd (omega arith))
+      all_given : (t : Bool) → has_sixty store year ≡ t → list_all is_some (sixty_months (register_of store) year) ≡ t
+      all_given t e = sym (sym e ∙ and_true (is_year year) (list_all is_some (sixty_months (register_of store) year)) y)
 
-    missing : (t : Bool) → has_sixty store year ≡ t → o ≡ None → t ≡ false
-    missing true e f = let some : ◌≡◌ {A = Option (List ℕ)} (Some (rates_taken store year)) None = sym (eo ∙ rw e) ∙ f in (let z : ◌≡◌ {A = ℕ} 0 1 = cc in absurd (omega arith))
-    missing false e f = refl
+      found : (t : Bool) → has_sixty store year ≡ t → (months : List ℕ) → o ≡ Some months → (t ≡ true) × (months ≡ rates_taken store year)
+      found true e months f = let same : ◌≡◌ {A = Option (List ℕ)} (Some (rates_taken store year)) (Some months) = sym (eo ∙ rw e) ∙ f in (refl, sym (cc same))
+      found false e months f = let none : ◌≡◌ {A = Option (List ℕ)} None (Some months) = sym (eo ∙ rw e) ∙ f in (let z : ◌≡◌ {A = ℕ} 0 1 = cc in absurd (omega arith))
 
-    pub month_missing : o ≡ None → (r : Outcome) → r ≡ refused_of book refusal.NoMonth → Settled book (set_rate_from_register year) store r store
-    month_missing m r er =
-        refused book refusal.NoMonth (first_no (book_questions (view book store) (set_rate_from_register year))) (set_rate_from_register year) store r
-        (first_is None false p.free (all_given false (missing (has_sixty store year) refl m))) er
+      missing : (t : Bool) → has_sixty store year ≡ t → o ≡ None → t ≡ false
+      missing true e f = let some : ◌≡◌ {A = Option (List ℕ)} (Some (rates_taken store year)) None = sym (eo ∙ rw e) ∙ f in (let z : ◌≡◌ {A = ℕ} 0 1 = cc in absurd (omega arith))
+      missing false e f = refl
 
-    -- the rate of the sixty months
-    module _ (months : List ℕ) (em : o ≡ Some months) where
-      taken : months ≡ months_taken (view book store) year
-      taken = (found (has_sixty store year) refl months em).1 ∙ ap (λ (b : Bool). if b then months_taken (view book store) year else replicate 60 0) p.within
+      pub month_missing : o ≡ None → (r : Outcome) → r ≡ refused_of book refusal.NoMonth → Settled book (set_rate_from_register year) store r store
+      month_missing m r er =
+          refused book refusal.NoMonth (first_no (book_questions (view book store) (set_rate_from_register year))) (set_rate_from_register year) store r
+          (first_is None false free (all_given false (missing (has_sixty store year) refl m))) er
 
-      rates : list_all is_rate months ≡ true
-      rates = rw taken (all_pass is_rate refl (λ date. register_of store date.0 date.1) (λ date. register_within store date.0 date.1) (dates year))
+      -- the rate of the sixty months
+      module _ (months : List ℕ) (em : o ≡ Some months) where
+        months_are : months ≡ months_taken (view book store) year
+        months_are = (found (has_sixty store year) refl months em).1 ∙ ap (λ (b : Bool). if b then months_taken (view book store) year else replicate 60 0) y
 
-      -- `mean_rate` does not refuse them
-      pub is_mean : mean_of months ≡ Ok (rate_of months)
-      is_mean = mean_is months (rw taken) rates
+        rates : list_all is_rate months ≡ true
+        rates = rw months_are (all_pass is_rate refl (λ date. register_of store date.0 date.1) (λ date. register_within store date.0 date.1) (dates year))
 
-      pub rate_given_on : (m : Result ℕ Refusal) → m ≡ mean_of months → (v : ℕ) → m ≡ Ok v → length book.rates ≡ 113 → (later : List ℕ) (r : Outcome) → GivesRate book year v store r later → Settled book (set_rate_from_register year) store r later
-      unfolding accept book_settled store_settled
-      rate_given_on m eq v ev len later r g =
-          let mean : v ≡ rate_of months = sym (cc (sym is_mean ∙ sym eq ∙ ev)) in
-          let same : v ≡ rate_of (months_taken (view book store) year) = mean ∙ ap rate_of taken in
-          rw (first_is None true p.free (all_given true (found (has_sixty store year) refl months em).0))
-          record {
-            outcome = rate_shown book year v p.within (omega (arith, mean, mean_small months (rw taken) rates)) len store r later g ∙ rw same;
-            own = ap (λ (o : Outcome). o.book) g.outcome ∙ rw same;
-            lent = g.lent ∙ rw same;
-          }
+        -- `mean_rate` does not refuse them
+        pub is_mean : mean_of months ≡ Ok (rate_of months)
+        is_mean = mean_is months (rw months_are) rates
+
+        pub rate_given_on : (m : Result ℕ Refusal) → m ≡ mean_of months → (v : ℕ) → m ≡ Ok v → length book.rates ≡ 113 → (later : List ℕ) (r : Outcome) → GivesRate book k v store r later → Settled book (set_rate_from_register year) store r later
+        unfolding accept book_settled store_settled
+        rate_given_on m eq v ev len later r given =
+            let g : GivesRate book year v store r later = rw (← ek) given in
+            let mean : v ≡ rate_of months = sym (cc (sym is_mean ∙ sym eq ∙ ev)) in
+            let same : v ≡ rate_of (months_taken (view book store) year) = mean ∙ ap rate_of months_are in
+            rw (first_is None true free (all_given true (found (has_sixty store year) refl months em).0))
+            record {
+              outcome = rate_shown book year v y (omega (arith, mean, mean_small months (rw months_are) rates)) len store r later g ∙ rw same;
+              own = ap (λ (o : Outcome). o.book) g.outcome ∙ rw same;
+              lent = g.lent ∙ rw same;
+            }

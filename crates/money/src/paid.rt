@@ -2,7 +2,7 @@
 ghost use Rattle.std.specs.Prelude.{◌≡◌, ℤ, true};
 ghost use Rattle.std.specs.List.{list_all};
 ghost use Rattle.model.specs.Kind.{is_paid};
-ghost use Rattle.money.specs.Paid.{paid};
+ghost use Rattle.kinds.specs.Within.{within};
 
 use std::marker::Model;
 
@@ -28,7 +28,7 @@ impl Paid {
 
     // The paid that v is; none where it is outside the limits.
     pub fn new(v: i64) -> Option<Paid>
-        ensures { result ≡ paid v }
+        ensures { result ≡ within is_paid v }
     {
         if Paid::LEAST <= v && v <= Paid::MOST {
             Some(Paid { value: v })

@@ -1,21 +1,18 @@
 -- A number with its sign.
 -- Assumes nothing.
 use Rattle.std.specs.Prelude.{if◌then◌else◌, Option, None, Some}
-use Rattle.std.proofs.Common.{◌≡◌, ℕ, zero, suc, ◌+◌, ◌-◌, ◌<◌, ◌≤◌, Bool, true, false, not, ◌&&◌, eqb, List, [], ◌∷◌, length, take, drop, sym, refl, ap, ◌∙◌, arith, eq-eqb, ne_eqb, eqb-true, drop_of_length-le}
+use Rattle.std.proofs.Common.{◌≡◌, ℕ, ◌+◌, ◌-◌, ◌<◌, ◌≤◌, Bool, true, false, not, ◌&&◌, eqb, leb, ltb, List, [], ◌∷◌, length, get_or, take, drop, leb-true, ltb-true, sym, refl, ap, ◌∙◌, arith, eq-eqb, ne_eqb, eqb-true, drop_of_length-le}
 use mathlib.Core.Bool.{false≢true, and-false}
+use Rattle.std.specs.Bool.{then_some}
 use Rattle.model.specs.Field.{fields, field}
-use Rattle.model.specs.Number.{natural, is_plain, is_written}
-use Rattle.model.proofs.Lists.{Some≢None}
-use Rattle.numbers.specs.Number.{capped, has_minus, sign_length, leading, is_end, number_in, Found, Ended}
+use Rattle.model.specs.Number.{is_digit, natural, is_plain, minus, is_written}
+use Rattle.model.proofs.Lists.{Some≢None, drop_next}
+use Rattle.numbers.specs.Number.{capped, has_minus, leading, is_end, leading_digits, digits_to_tab, without_sign, number_in}
 use Rattle.numbers.specs.declared.front.Digits.{Digits}
 use Rattle.numbers.specs.declared.number.Number.{Number}
 use Rattle.field.proofs.Scan.{before, first_field}
 use Rattle.field.proofs.Fields.{before_le, rest_whole}
 use Rattle.numbers.proofs.Digits.{plain_field, field_whole}
-
-minus_some : (s : List ℕ) → has_minus s ≡ true → 1 ≤ length s
-minus_some [] e = absurd (false≢true e)
-minus_some (b ∷ bs) e = omega arith
 
 -- well written, with a sign and without
 written_plain : (m : Bool) (f : List ℕ) → has_minus f ≡ false → is_written m f ≡ is_plain f
@@ -67,11 +64,6 @@ same_minus : (s : List ℕ) → has_minus (before s) ≡ has_minus s
 same_minus [] = refl
 same_minus (b ∷ bs) = same_by b bs (eqb b 9) refl
 
--- the field after a minus sign
-after_minus : (s : List ℕ) → has_minus s ≡ true → (drop 1 (before s) ≡ before (drop 1 s)) × (length (before s) ≡ suc (length (before (drop 1 s))))
-after_minus [] e = absurd (false≢true e)
-after_minus (b ∷ bs) e = let z : b ≡ 45 = eqb-true b 45 e in rw z (refl, refl)
-
 -- what a field is read as
 abbrev read : List ℕ → Number
 read f = record { minus = has_minus f; size = capped f; length = length f }
@@ -99,130 +91,104 @@ module _ (minus_allowed : Bool) (f : List ℕ) where
   missing e = missing_by (is_written minus_allowed f) refl e
 
 -- a number without a sign
-module _ (s : List ℕ) (minus_allowed : Bool) where
-  plain_read : (d : Digits) → Found s d → is_plain (leading s) ≡ true → is_end (drop (length (leading s)) s) ≡ true → Some (record { minus = false; size = d.size; length = d.length }) ≡ number_in minus_allowed (field 0 (fields s))
-  plain_read d h p e =
+module _ (s : List ℕ) (d : Digits) (ed : d ≡ leading_digits s) (n : Number) (g : n ≡ without_sign d) where
+  plain_read : (minus_allowed : Bool) → is_plain (leading s) ≡ true → is_end (drop (length (leading s)) s) ≡ true → Some n ≡ number_in minus_allowed (field 0 (fields s))
+  plain_read minus_allowed p e =
       let whole = field_whole s e in
       let plain : is_plain (field 0 (fields s)) ≡ true = rw whole p in
       let none = sym (no_minus_by (field 0 (fields s)) (has_minus (field 0 (fields s))) refl plain) in
-      some_number minus_allowed (field 0 (fields s)) (written_plain minus_allowed (field 0 (fields s)) none ∙ plain) false d.size d.length (sym none) (rw whole h.value) (rw whole h.long)
+      some_number minus_allowed (field 0 (fields s)) (written_plain minus_allowed (field 0 (fields s)) none ∙ plain) n.minus n.size n.length (ap (λ (m : Number). m.minus) g ∙ sym none)
+      (rw whole (ap (λ (m : Number). m.size) g ∙ ap (λ (x : Digits). x.size) ed))
+      (rw whole (ap (λ (m : Number). m.length) g ∙ ap (λ (x : Digits). x.length) ed))
 
-  -- the digits up to a tab
-  pub to_tab : (d : Digits) → Ended s d → (t : Bool) → t ≡ is_plain (leading s) → t ≡ true → Some (record { minus = false; size = d.size; length = d.length }) ≡ number_in minus_allowed (field 0 (fields s))
-  to_tab d h t et t1 = plain_read d h.found (sym et ∙ t1) (rw h.found.long at h.ended)
+module _ (s : List ℕ) (d : Digits) (ed : d ≡ leading_digits s) (t : Bool) (et : t ≡ is_plain (leading s)) (u : Bool) (eu : u ≡ is_end (drop d.length s)) where
+  end_is : is_end (drop (length (leading s)) s) ≡ u
+  end_is = rw (← ap (λ (x : Digits). x.length) ed) (sym eu)
 
-module _ (s : List ℕ) (d : Digits) (h : Found s d) (t : Bool) (et : t ≡ is_plain (leading s)) where
-  module _ (u : Bool) (eu : u ≡ is_end (drop d.length s)) where
-    pub unsigned_is : t ≡ true → u ≡ true → Some (record { minus = false; size = d.size; length = d.length }) ≡ number_in false (field 0 (fields s))
-    unsigned_is t1 u1 = plain_read s false d h (sym et ∙ t1) (rw h.long at (sym eu ∙ u1))
+  pub unsigned_is : t ≡ true → u ≡ true → (n : Number) → n ≡ without_sign d → Some n ≡ number_in false (field 0 (fields s))
+  unsigned_is t1 u1 n g = plain_read s d ed n g false (sym et ∙ t1) (end_is ∙ u1)
 
-    pub unsigned_end : u ≡ false → None ≡ number_in false (field 0 (fields s))
-    unsigned_end u0 =
-        let e : is_end (drop (length (leading s)) s) ≡ false = rw h.long at (sym eu ∙ u0) in
-        no_number false (field 0 (fields s)) (written_never (field 0 (fields s)) ∙ plain_field s ∙ rw e (and-false (is_plain (leading s))))
+  pub unsigned_end : u ≡ false → None ≡ number_in false (field 0 (fields s))
+  unsigned_end u0 = no_number false (field 0 (fields s)) (written_never (field 0 (fields s)) ∙ plain_field s ∙ rw (end_is, u0) (and-false (is_plain (leading s))))
 
-  pub unsigned_none : t ≡ false → None ≡ number_in false (field 0 (fields s))
-  unsigned_none t0 = no_number false (field 0 (fields s)) (written_never (field 0 (fields s)) ∙ plain_field s ∙ rw (sym et ∙ t0))
+pub unsigned_none : (s : List ℕ) (t : Bool) → t ≡ is_plain (leading s) → t ≡ false → None ≡ number_in false (field 0 (fields s))
+unsigned_none s t et t0 = no_number false (field 0 (fields s)) (written_never (field 0 (fields s)) ∙ plain_field s ∙ rw (sym et ∙ t0))
 
--- without a sign at the front it makes no difference whether one is allowed
-not_there : (s : List ℕ) (minus_allowed t : Bool) (r : Option Number) → t ≡ has_minus s → t ≡ false → r ≡ number_in false (field 0 (fields s)) → r ≡ number_in minus_allowed (field 0 (fields s))
-not_there s minus_allowed t r et t0 h =
+-- no digit is a minus sign
+minus_by : (b : ℕ) (bs : List ℕ) (t : Bool) → is_digit b ≡ t → has_minus (leading (b ∷ bs)) ≡ false
+minus_by b bs true e = rw e (ne_eqb b 45 (λ z. let w : ◌≡◌ {A = ℕ} 0 1 = cc in omega arith))
+minus_by b bs false e = rw e
+
+leading_minus : (s : List ℕ) → has_minus (leading s) ≡ false
+leading_minus [] = refl
+leading_minus (b ∷ bs) = minus_by b bs (is_digit b) refl
+
+-- the digits up to a tab are the whole field
+tab_by : (s : List ℕ) (k : ℕ) → k < length s → eqb (get_or s k 0) 9 ≡ true → is_end (drop k s) ≡ true
+tab_by s k lt e = rw (drop_next s k 0 lt) e
+
+ended_by : (s : List ℕ) (d : Digits) (a b t : Bool) → leb 12 (length s) ≡ a → ltb (length (leading s)) 12 ≡ b → eqb (get_or s (length (leading s)) 0) 9 ≡ t → Some d ≡ (if a && b && t then Some (leading_digits s) else None)
+    → (d ≡ leading_digits s) × (is_end (drop (length (leading s)) s) ≡ true)
+ended_by s d true true true ea eb et e = (cc, tab_by s (length (leading s)) (omega (arith, leb-true 12 (length s) ea, ltb-true (length (leading s)) 12 eb)) et)
+ended_by s d true true false ea eb et e = absurd (Some≢None d e)
+ended_by s d true false t ea eb et e = absurd (Some≢None d e)
+ended_by s d false b t ea eb et e = absurd (Some≢None d e)
+
+ended : (s : List ℕ) (d : Digits) → Some d ≡ digits_to_tab s → (d ≡ leading_digits s) × (is_end (drop (length (leading s)) s) ≡ true)
+ended s d e = ended_by s d (leb 12 (length s)) (ltb (length (leading s)) 12) (eqb (get_or s (length (leading s)) 0) 9) refl refl refl e
+
+-- a number after a minus sign
+after_sign : (f : List ℕ) → is_written true (minus ∷ f) ≡ (is_plain f && not (eqb (natural f) 0))
+after_sign f = written_minus (minus ∷ f) refl
+
+module _ (f : List ℕ) where
+  pub below_none : None ≡ number_in false f → (r : Option Number) → r ≡ None → r ≡ number_in true (minus ∷ f)
+  below_none e r er =
+      let none : is_plain f ≡ false = sym (written_never f) ∙ missing false f e in
+      er ∙ no_number true (minus ∷ f) (after_sign f ∙ rw none)
+
+  module _ (n : Number) (e : Some n ≡ number_in false f) where
+    digits : (is_written false f ≡ true) × (n ≡ read f)
+    digits = given false f n e
+
+    plain : is_plain f ≡ true
+    plain = sym (written_never f) ∙ digits.0
+
+    size : n.size ≡ capped f
+    size = ap (λ (m : Number). m.size) digits.1
+
+    pub below_nought : n.size ≡ 0 → None ≡ number_in true (minus ∷ f)
+    below_nought z =
+        let zero : natural f ≡ 0 = omega (arith, size) in
+        no_number true (minus ∷ f) (after_sign f ∙ rw (plain, eq-eqb (natural f) 0 zero))
+
+    pub below_is : (n.size ≡ 0 → ⊥) → Some (record { minus = true; size = n.size; length = n.length + 1 }) ≡ number_in true (minus ∷ f)
+    below_is nz =
+        let more : natural f ≡ 0 → ⊥ = λ z. nz (omega (arith, size)) in
+        some_number true (minus ∷ f) (after_sign f ∙ rw (plain, ne_eqb (natural f) 0 more)) true n.size (n.length + 1) refl
+        (rw (natural_minus (minus ∷ f) refl) size)
+        (omega (arith, ap (λ (m : Number). m.length) digits.1))
+
+-- a minus sign, or none
+minus_first : (s : List ℕ) → has_minus s ≡ true → before s ≡ minus ∷ before (drop 1 s)
+minus_first [] e = absurd (false≢true e)
+minus_first (b ∷ bs) e = let z : b ≡ 45 = eqb-true b 45 e in rw z
+
+pub minus_signed : (s : List ℕ) (minus_allowed t : Bool) → minus_allowed ≡ true → t ≡ has_minus s → t ≡ true → (r : Option Number) → r ≡ number_in true (minus ∷ field 0 (fields (take (length s - 1) (drop 1 s)))) → r ≡ number_in minus_allowed (field 0 (fields s))
+minus_signed s minus_allowed t ea et t1 r e =
+    let sign : field 0 (fields s) ≡ minus ∷ field 0 (fields (take (length s - 1) (drop 1 s))) = first_field s ∙ minus_first s (sym et ∙ t1) ∙ rw (rest_whole s 1, first_field (drop 1 s)) in
+    rw (ea, sign) e
+
+pub not_signed : (s : List ℕ) (minus_allowed t : Bool) → t ≡ has_minus s → t ≡ false → (r : Option Number) → r ≡ number_in false (field 0 (fields s)) → r ≡ number_in minus_allowed (field 0 (fields s))
+not_signed s minus_allowed t et t0 r h =
     let none : has_minus (field 0 (fields s)) ≡ false = ap has_minus (first_field s) ∙ same_minus s ∙ sym et ∙ t0 in
     rw (written_plain minus_allowed (field 0 (fields s)) none, ← (written_never (field 0 (fields s)))) h
 
--- a number after a minus sign
-module _ (s : List ℕ) (minus_allowed t : Bool) (ea : minus_allowed ≡ true) (et : t ≡ has_minus s) (t1 : t ≡ true) where
-  sign : has_minus (field 0 (fields s)) ≡ true
-  sign = ap has_minus (first_field s) ∙ same_minus s ∙ sym et ∙ t1
+pub not_allowed : (s : List ℕ) (minus_allowed : Bool) → minus_allowed ≡ false → (r : Option Number) → r ≡ number_in false (field 0 (fields s)) → r ≡ number_in minus_allowed (field 0 (fields s))
+not_allowed s minus_allowed ea r h = rw ea h
 
-  part : field 0 (fields (take (length s - 1) (drop 1 s))) ≡ drop 1 (field 0 (fields s))
-  part = rw (rest_whole s 1, first_field (drop 1 s), first_field s) (sym (after_minus s (sym et ∙ t1)).0)
-
-  long : length (field 0 (fields s)) ≡ length (drop 1 (field 0 (fields s))) + 1
-  long = rw (first_field s, (after_minus s (sym et ∙ t1)).0) (omega (arith, (after_minus s (sym et ∙ t1)).1))
-
-  written : is_written minus_allowed (field 0 (fields s)) ≡ (is_plain (drop 1 (field 0 (fields s))) && not (eqb (natural (drop 1 (field 0 (fields s)))) 0))
-  written = rw ea (written_minus (field 0 (fields s)) sign)
-
-  minus_missing : None ≡ number_in false (field 0 (fields (take (length s - 1) (drop 1 s)))) → (r : Option Number) → r ≡ None → r ≡ number_in minus_allowed (field 0 (fields s))
-  minus_missing e r er =
-      let none : is_plain (drop 1 (field 0 (fields s))) ≡ false = sym (written_never (drop 1 (field 0 (fields s)))) ∙ missing false (drop 1 (field 0 (fields s))) (rw part at e) in
-      er ∙ no_number minus_allowed (field 0 (fields s)) (written ∙ rw none)
-
-  module _ (n : Number) (e : Some n ≡ number_in false (field 0 (fields (take (length s - 1) (drop 1 s))))) where
-    digits : (is_written false (drop 1 (field 0 (fields s))) ≡ true) × (n ≡ read (drop 1 (field 0 (fields s))))
-    digits = given false (drop 1 (field 0 (fields s))) n (rw part at e)
-
-    plain : is_plain (drop 1 (field 0 (fields s))) ≡ true
-    plain = sym (written_never (drop 1 (field 0 (fields s)))) ∙ digits.0
-
-    size : n.size ≡ capped (drop 1 (field 0 (fields s)))
-    size = ap (λ (m : Number). m.size) digits.1
-
-    minus_fits : n.length + 1 ≤ length s
-    minus_fits = omega (arith, ap (λ (m : Number). m.length) digits.1, long, ap length (first_field s), before_le s)
-
-    minus_zero : n.size ≡ 0 → None ≡ number_in minus_allowed (field 0 (fields s))
-    minus_zero z =
-        let zero : natural (drop 1 (field 0 (fields s))) ≡ 0 = omega (arith, size) in
-        no_number minus_allowed (field 0 (fields s)) (written ∙ rw (plain, eq-eqb (natural (drop 1 (field 0 (fields s)))) 0 zero))
-
-    minus_is : (n.size ≡ 0 → ⊥) → Some (record { minus = true; size = n.size; length = n.length + 1 }) ≡ number_in minus_allowed (field 0 (fields s))
-    minus_is nz =
-        let more : natural (drop 1 (field 0 (fields s))) ≡ 0 → ⊥ = λ z. nz (omega (arith, size)) in
-        some_number minus_allowed (field 0 (fields s)) (written ∙ rw (plain, ne_eqb (natural (drop 1 (field 0 (fields s)))) 0 more)) true n.size (n.length + 1) (sym sign)
-        (rw (natural_minus (field 0 (fields s)) sign) size)
-        (omega (arith, ap (λ (m : Number). m.length) digits.1, long))
-
--- the sign at the front: it is there just where it is allowed and the rest begins with one
-fits_by : (minus_allowed : Bool) (s : List ℕ) (t : Bool) (n : ℕ) → has_minus s ≡ t → n ≡ (if minus_allowed then (if t then 1 else 0) else 0) → n ≤ length s
-fits_by true s true n q e = omega (arith, minus_some s q)
-fits_by true s false n q e = omega arith
-fits_by false s t n q e = omega arith
-
-pub sign_fits : (minus_allowed : Bool) (s : List ℕ) (n : ℕ) → n ≡ sign_length minus_allowed s → n ≤ length s
-sign_fits minus_allowed s n e = fits_by minus_allowed s (has_minus s) n refl e
-
-told_by : (minus_allowed t : Bool) (n : ℕ) → n ≡ (if minus_allowed then (if t then 1 else 0) else 0) → (n ≡ 0 → ⊥) → (minus_allowed ≡ true) × (t ≡ true) × (n ≡ 1)
-told_by true true n e z = (refl, refl, e)
-told_by true false n e z = absurd (z e)
-told_by false t n e z = absurd (z e)
-
-front_by : (s : List ℕ) (minus_allowed t : Bool) (n : ℕ) (r : Option Number) → t ≡ has_minus s → n ≡ (if minus_allowed then (if t then 1 else 0) else 0) → n ≡ 0 → r ≡ number_in false (field 0 (fields s)) → r ≡ number_in minus_allowed (field 0 (fields s))
-front_by s false t n r et e z h = h
-front_by s true false n r et e z h = not_there s true false r et refl h
-front_by s true true n r et e z h = absurd (omega arith)
-
--- a number read from after the sign on
-module _ (s : List ℕ) (minus_allowed : Bool) (l : ℕ) (el : l ≡ sign_length minus_allowed s) where
-  at_front : l ≡ 0 → (r : Option Number) → r ≡ number_in false (field 0 (fields (take (length s - l) (drop l s)))) → r ≡ number_in minus_allowed (field 0 (fields s))
-  at_front z r h = front_by s minus_allowed (has_minus s) l r refl el z (rw (z, rest_whole s 0) at h)
-
-  told : (l ≡ 0 → ⊥) → (minus_allowed ≡ true) × (has_minus s ≡ true) × (l ≡ 1)
-  told nz = told_by minus_allowed (has_minus s) l el nz
-
-  missing_at : (k : ℕ) → l ≡ k → None ≡ number_in false (field 0 (fields (take (length s - l) (drop l s)))) → (r : Option Number) → r ≡ None → r ≡ number_in minus_allowed (field 0 (fields s))
-  missing_at zero z e r er = er ∙ at_front z None e
-  missing_at (suc k) z e r er =
-      let q = told (λ y. omega arith) in
-      minus_missing s minus_allowed (has_minus s) q.0 refl q.1 (rw q.2 at e) r er
-
-  pub signed_missing : None ≡ number_in false (field 0 (fields (take (length s - l) (drop l s)))) → (r : Option Number) → r ≡ None → r ≡ number_in minus_allowed (field 0 (fields s))
-  signed_missing e r er = missing_at l refl e r er
-
-  module _ (n : Number) (e : Some n ≡ number_in false (field 0 (fields (take (length s - l) (drop l s))))) where
-    pub signed_plus : l ≡ 0 → Some n ≡ number_in minus_allowed (field 0 (fields s))
-    signed_plus z = at_front z (Some n) e
-
-    module _ (nz : l ≡ 0 → ⊥) where
-      pub signed_fits : n.length + 1 ≤ length s
-      signed_fits = let q = told nz in minus_fits s minus_allowed (has_minus s) q.0 refl q.1 n (rw q.2 at e)
-
-      pub signed_zero : n.size ≡ 0 → None ≡ number_in minus_allowed (field 0 (fields s))
-      signed_zero z = let q = told nz in minus_zero s minus_allowed (has_minus s) q.0 refl q.1 n (rw q.2 at e) z
-
-      pub signed_minus : (n.size ≡ 0 → ⊥) → Some (record { minus = true; size = n.size; length = n.length + 1 }) ≡ number_in minus_allowed (field 0 (fields s))
-      signed_minus z = let q = told nz in minus_is s minus_allowed (has_minus s) q.0 refl q.1 n (rw q.2 at e) z
+pub number_long : (s : List ℕ) (n : Number) → Some n ≡ number_in false (field 0 (fields s)) → n.length ≤ length s
+number_long s n e = omega (arith, ap (λ (m : Number). m.length) (digits (field 0 (fields s)) n e).1, ap length (first_field s), before_le s)
 
 -- the number in the field that begins at a place of a line
 none_written : (minus_allowed : Bool) → is_written minus_allowed (field 0 (fields [])) ≡ false
@@ -238,6 +204,22 @@ past_written s at minus_allowed past =
 pub past_end : (s : List ℕ) (at : ℕ) (minus_allowed : Bool) → length s < at → None ≡ number_in minus_allowed (field 0 (fields (drop at s)))
 past_end s at minus_allowed past = no_number minus_allowed (field 0 (fields (drop at s))) (past_written s at minus_allowed past)
 
-pub tab_at : (s : List ℕ) (at : ℕ) (minus_allowed : Bool) (d : Digits) → Ended (take (length s - at) (drop at s)) d → (t : Bool) → t ≡ is_plain (leading (take (length s - at) (drop at s))) → t ≡ true
-    → Some (record { minus = false; size = d.size; length = d.length }) ≡ number_in minus_allowed (field 0 (fields (drop at s)))
-tab_at s at minus_allowed d h t et t1 = rw (rest_whole s at) at (to_tab (take (length s - at) (drop at s)) minus_allowed d h t et t1)
+-- where a tab ends the digits, they are the whole field
+module _ (s : List ℕ) (minus_allowed : Bool) (d : Digits) (e : Some d ≡ digits_to_tab s) where
+  tab_is : is_plain (leading s) ≡ true → Some (without_sign d) ≡ number_in minus_allowed (field 0 (fields s))
+  tab_is p = plain_read s d (ended s d e).0 (without_sign d) refl minus_allowed p (ended s d e).1
+
+  tab_none : is_plain (leading s) ≡ false → None ≡ number_in minus_allowed (field 0 (fields s))
+  tab_none p =
+      let whole = field_whole s (ended s d e).1 in
+      let none : has_minus (field 0 (fields s)) ≡ false = rw whole (leading_minus s) in
+      no_number minus_allowed (field 0 (fields s)) (written_plain minus_allowed (field 0 (fields s)) none ∙ rw whole p)
+
+  tab_by_plain : (t : Bool) → t ≡ is_plain (leading s) → then_some t (without_sign d) ≡ number_in minus_allowed (field 0 (fields s))
+  tab_by_plain true et = tab_is (sym et)
+  tab_by_plain false et = tab_none (sym et)
+
+pub tab_at : (s : List ℕ) (at : ℕ) (minus_allowed : Bool) (d : Digits) → Some d ≡ digits_to_tab (take (length s - at) (drop at s)) → (t : Bool) → t ≡ is_plain (leading (take (length s - at) (drop at s)))
+    → (n : Number) → n ≡ without_sign d → (r : Option Number) → r ≡ then_some t n → r ≡ number_in minus_allowed (field 0 (fields (drop at s)))
+tab_at s at minus_allowed d e t et n en r q =
+    q ∙ rw (en, ← rest_whole s at) (tab_by_plain (take (length s - at) (drop at s)) minus_allowed d e t et)

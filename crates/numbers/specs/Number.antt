@@ -1,6 +1,6 @@
 -- A number as it is read from the front of the rest of a line: its sign, its size, which stops above every limit, and its length.
 -- Assumes nothing: these are definitions.
-use Rattle.std.specs.Prelude.{◌≡◌, ℕ, ◌+◌, ◌≤◌, min, Bool, true, List, [], ◌∷◌, length, drop, ◌==◌, slice_index, if◌then◌else◌, Option, None, Some}
+use Rattle.std.specs.Prelude.{◌≡◌, ℕ, ◌+◌, ◌≤◌, min, Bool, true, false, ◌&&◌, leb, ltb, List, [], ◌∷◌, length, drop, ◌==◌, slice_index, if◌then◌else◌, Option, None, Some}
 use Rattle.model.specs.Number.{is_digit, onward, natural, minus, is_written}
 use Rattle.numbers.specs.declared.front.Digits.{Digits}
 use Rattle.numbers.specs.declared.number.Number.{Number}
@@ -15,10 +15,6 @@ capped f = min (natural f) most
 
 abbrev pub has_minus : List ℕ → Bool
 has_minus f = slice_index f 0 == minus
-
--- how long the sign at the front is, where minusAllowed says whether a minus sign is allowed
-abbrev pub sign_length : Bool → List ℕ → ℕ
-sign_length minus_allowed f = if minus_allowed then (if has_minus f then 1 else 0) else 0
 
 -- the digits at the front
 abbrev pub leading : List ℕ → List ℕ
@@ -37,15 +33,19 @@ pub record Told (rest : List ℕ) (n i : ℕ) : Type 0 where
   pub long : length (leading rest) ≡ i + length (leading (drop i rest))
   pub value : capped (leading rest) ≡ min (onward n (leading (drop i rest))) most
 
--- the digits at the front: how many they are, and their number
-pub record Found (rest : List ℕ) (d : Digits) : Type 0 where
-  pub long : d.length ≡ length (leading rest)
-  pub value : d.size ≡ capped (leading rest)
+-- the digits at the front: their number, or the most, and how many they are
+abbrev pub leading_digits : List ℕ → Digits
+leading_digits rest = record { size = capped (leading rest); length = length (leading rest) }
 
--- and a tab or the end is after them
-pub record Ended (rest : List ℕ) (d : Digits) : Type 0 where
-  pub found : Found rest d
-  pub ended : is_end (drop d.length rest) ≡ true
+-- the same, where the rest has at least twelve bytes, and of its first twelve the first that is no digit is a tab
+abbrev pub digits_to_tab : List ℕ → Option Digits
+digits_to_tab rest =
+    let n = length (leading rest) in
+    if leb 12 (length rest) && ltb n 12 && slice_index rest n == 9 then Some (leading_digits rest) else None
+
+-- digits as a number without a sign
+abbrev pub without_sign : Digits → Number
+without_sign digits = record { minus = false; size = digits.size; length = digits.length }
 
 -- "A number is digits without leading zeros ("0" alone is right); a minus sign is allowed only before a nonzero paid in YEAR.":
 -- the number that a field is, where minusAllowed says whether a minus sign is allowed: its sign, size and length; none where it is not well written

@@ -1,7 +1,7 @@
 -- PATT: its questions, and what an accepted one leaves.
 -- Assumes nothing.
 use Rattle.std.specs.Prelude.{if◌then◌else◌, Option, None, Some, is_some, Result, Ok, Err}
-use mathlib.Core.Bool.{Bool, true, false, ◌&&◌}
+use mathlib.Core.Bool.{Bool, true, false, not, ◌&&◌}
 use mathlib.Core.List.{List, [], ◌∷◌}
 use mathlib.Core.Path.{◌≡◌, refl, sym, ap, ◌∙◌}
 use Prim.Native.Nat.{ℕ}
@@ -13,7 +13,6 @@ use Rattle.model.specs.Pattern.{ages_of}
 use Rattle.model.specs.Tail.{schedule}
 use Rattle.model.specs.Call.{Call, add_pattern}
 use Rattle.model.specs.Question.{Sound, has_lengths, is_within_limits, has_incurred, climbs, book_questions, first_no}
-use Rattle.model.specs.Step.{as_numbers}
 use Rattle.refusal.specs.Unless.{unless}
 use Rattle.factor.specs.declared.pattern.Pattern.{Pattern}
 use Rattle.factor.specs.Pattern.{kept_of, pattern_of}
@@ -27,21 +26,18 @@ use Rattle.state.specs.Lines.{line_at}
 use Rattle.state.specs.View.{line_of, view}
 use Rattle.ledger.specs.Answer.{refused_of}
 use Rattle.refusal.specs.Number.{number_of, refusal_of}
-use Rattle.ledger.specs.Does.{Settled, Does}
+use Rattle.ledger.specs.Does.{Settled}
 use Rattle.patterns.specs.AddPattern.{follows_last, Turned}
-use Rattle.ledger.proofs.Settling.{refused, goes_on}
+use Rattle.ledger.proofs.Settling.{refused}
 use Rattle.state.proofs.Limited.{line_limited}
 use Rattle.state.proofs.Views.{line_is}
 use Rattle.patterns.proofs.Turns.{follows_is}
 
 -- questions 3, 4 and 6
-module _ (letter year : ℕ) (paid incurred : List ℕ) (lettered : Bool) (el : lettered ≡ covered letter) (l : lettered ≡ true)
-    (counted : Bool) (ec : counted ≡ has_lengths (add_pattern letter 0 paid incurred)) (n : counted ≡ true) (limited : Bool) (em : limited ≡ is_within_limits (add_pattern 0 year paid incurred)) where
-  pub pattern_sound : limited ≡ true → Sound (add_pattern letter year paid incurred)
-  pattern_sound m = record { letter = sym el ∙ l; lengths = sym ec ∙ n; limits = sym em ∙ m }
-
-  pub pattern_on : limited ≡ true → (book : Book) (store later : List ℕ) (r : Outcome) → Settled book (add_pattern letter year paid incurred) store r later → Does book (as_numbers (add_pattern letter year paid incurred)) store r later
-  pattern_on m book store later r h = goes_on book (add_pattern letter year paid incurred) store r (pattern_sound m) later h
+pub pattern_sound : (letter year : ℕ) (paid incurred : List ℕ) (lettered : Bool) → lettered ≡ covered letter → lettered ≡ true
+    → (counted : Bool) → counted ≡ has_lengths (add_pattern letter 0 paid incurred) → counted ≡ true
+    → (limited : Bool) → limited ≡ is_within_limits (add_pattern 0 year paid incurred) → limited ≡ true → Sound (add_pattern letter year paid incurred)
+pattern_sound letter year paid incurred lettered el l counted ec n limited em m = record { letter = sym el ∙ l; lengths = sym ec ∙ n; limits = sym em ∙ m }
 
 -- questions 8 to 12, by the code's line
 module _ (book : Book) (store : List ℕ) (letter year : ℕ) (paid incurred : List ℕ) (sound : Sound (add_pattern letter year paid incurred)) (line : Line) (here : line ≡ line_at store letter) where
@@ -54,21 +50,21 @@ module _ (book : Book) (store : List ℕ) (letter year : ℕ) (paid incurred : L
   first_is = rw (line_is store letter line here, follows_is store letter line year (line_limited store letter line here))
 
   module _ (r : Outcome) where
-    module _ (given : Bool) (eg : given ≡ is_some line.opening) where
-      pub undeclared : given ≡ false → r ≡ refused_of book refusal.NotDeclared → Settled book call store r store
-      undeclared d er = refused book refusal.NotDeclared (first_no (book_questions (view book store) call)) call store r (first_is ∙ rw (← eg, d)) er
+    module _ (missing : Bool) (em : is_some line.opening ≡ not missing) where
+      pub undeclared : missing ≡ true → r ≡ refused_of book refusal.NotDeclared → Settled book call store r store
+      undeclared m er = refused book refusal.NotDeclared (first_no (book_questions (view book store) call)) call store r (first_is ∙ rw (em, m)) er
 
-      module _ (d : given ≡ true) (rate : Option ℕ) (erate : rate ≡ rates_of book.rates year) where
+      module _ (m : missing ≡ false) (rate : Option ℕ) (erate : rate ≡ rates_of book.rates year) where
         pub unrated : rate ≡ None → r ≡ refused_of book refusal.NoRate → Settled book call store r store
-        unrated e er = refused book refusal.NoRate (first_no (book_questions (view book store) call)) call store r (first_is ∙ rw (← eg, d, ← erate, e)) er
+        unrated e er = refused book refusal.NoRate (first_no (book_questions (view book store) call)) call store r (first_is ∙ rw (em, m, ← erate, e)) er
 
         module _ (number : ℕ) (e : rate ≡ Some number) (follows : Bool) (ef : follows ≡ follows_last line year) where
           pub out_of_turn : follows ≡ false → r ≡ refused_of book refusal.OutOfTurn → Settled book call store r store
           out_of_turn f er =
-              refused book refusal.OutOfTurn (first_no (book_questions (view book store) call)) call store r (first_is ∙ rw (← ef, f, ← erate, e, ← eg, d)) er
+              refused book refusal.OutOfTurn (first_no (book_questions (view book store) call)) call store r (first_is ∙ rw (← ef, f, ← erate, e, em, m)) er
 
-  pub turned : (given : Bool) → given ≡ is_some line.opening → given ≡ true → (rate : Option ℕ) → rate ≡ rates_of book.rates year → (number : ℕ) → rate ≡ Some number → (follows : Bool) → follows ≡ follows_last line year → follows ≡ true → Turned book store line letter year number paid incurred
-  turned given eg d rate erate number e follows ef f = record { sound = sound; here = here; declared = sym eg ∙ d; rated = sym erate ∙ e; turn = sym ef ∙ f }
+  pub turned : (missing : Bool) → is_some line.opening ≡ not missing → missing ≡ false → (rate : Option ℕ) → rate ≡ rates_of book.rates year → (number : ℕ) → rate ≡ Some number → (follows : Bool) → follows ≡ follows_last line year → follows ≡ true → Turned book store line letter year number paid incurred
+  turned missing em m rate erate number e follows ef f = record { sound = sound; here = here; declared = em ∙ ap not m; rated = sym erate ∙ e; turn = sym ef ∙ f }
 
 -- questions 11 and 12, by what `discount` answers
 abbrev first_of : Bool → Bool → Option ℕ

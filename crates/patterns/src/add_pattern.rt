@@ -38,16 +38,16 @@ pub fn add_pattern(
 ) -> Outcome
     ensures { Does book (as_numbers (add_pattern letter year paid.now incurred.now)) store.old result store.new }
 {
-    if is_covered(letter) {
-        if has_lengths(letter, paid, incurred) {
-            if has_limits(year, paid, incurred) {
-                return ask_declared(book, store, letter, year, paid, incurred);
-            }
-            return refuse(book, Refusal::OutsideLimits);
-        }
+    if !is_covered(letter) {
+        return refuse(book, Refusal::UncoveredLetter);
+    }
+    if !has_lengths(letter, paid, incurred) {
         return refuse(book, Refusal::WrongCount);
     }
-    refuse(book, Refusal::UncoveredLetter)
+    if !has_limits(year, paid, incurred) {
+        return refuse(book, Refusal::OutsideLimits);
+    }
+    ask_declared(book, store, letter, year, paid, incurred)
 }
 
 // "4. Is the count of fields right?": a number for each age in each list.
@@ -78,16 +78,16 @@ fn ask_declared(
     ensures { Settled book (add_pattern letter year paid.now incurred.now) store.old result store.new }
 {
     let line = line_of(store, letter);
-    if line.opening.is_some() {
-        let Some(rate) = rate_of(book, year) else {
-            return refuse(book, Refusal::NoRate);
-        };
-        if follows_last(line, year) {
-            return ask_ratios(book, store, line, letter, year, rate, paid, incurred);
-        }
+    if line.opening.is_none() {
+        return refuse(book, Refusal::NotDeclared);
+    }
+    let Some(rate) = rate_of(book, year) else {
+        return refuse(book, Refusal::NoRate);
+    };
+    if !follows_last(line, year) {
         return refuse(book, Refusal::OutOfTurn);
     }
-    refuse(book, Refusal::NotDeclared)
+    ask_ratios(book, store, line, letter, year, rate, paid, incurred)
 }
 
 // "is it the line's first pattern, or the year after its last one, that last one closed if any year is closed?"
@@ -95,11 +95,9 @@ fn ask_declared(
 fn follows_last(line: Line, year: u64) -> bool
     ensures { result ≡ follows_last line year }
 {
-    let Some(patterns) = line.patterns else {
-        return true;
-    };
-    let last = patterns.last;
-    year > last && year - last == 1 && line.closed.is_none_or(|closed| closed == last)
+    line.patterns.is_none_or(|Patterns { last, .. }| {
+        year.checked_sub(last) == Some(1) && line.closed.is_none_or(|closed| closed == last)
+    })
 }
 
 // "11. PATT: is every incurred above 0 and no paid above its incurred?" "12. PATT: does no cumulative ratio fall from one age to the next?", and the pattern.
@@ -133,7 +131,7 @@ fn keep(
 ) -> Outcome
     ensures { (result ≡ accepted_of book (Fact letter year)) × (store.new ≡ with_line_of (with_slot_of store.old letter year (pattern.factors ++ (pattern.composite ∷ []))) letter (with_pattern_of letter line year)) }
 {
-    keep_pattern(store, letter, year, pattern.factors, pattern.composite);
+    keep_pattern(store, letter, year, pattern);
     keep_line(store, letter, with_pattern(letter, line, year));
     accept(book, Answer::Fact { letter, year })
 }

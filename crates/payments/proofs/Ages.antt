@@ -1,17 +1,18 @@
--- The loops over a pattern record's ages: whether each has its incurred, and what each pays.
+-- A pattern record's ages: whether each has its incurred, and the loop over what each pays.
 -- Assumes nothing.
 use mathlib.Core.Path.{◌≡◌, refl, sym, ap, ◌∙◌}
-use mathlib.Core.Bool.{Bool, true, false, ◌&&◌}
+use mathlib.Core.Bool.{true, ◌&&◌}
 use mathlib.Core.List.{List, [], ◌∷◌, ◌++◌, map, append-nil}
 use Prim.Native.Nat.{ℕ, zero, suc, ◌+◌, ◌-◌, ◌*◌, ◌≤◌, ◌<◌}
 use native.Mathlib.Omega.{arith}
 use native.Mathlib.Numerals.{add-one}
-use borrow.Author.Tests.{leb-true, ltb-true, le-leb, lt-leb, lt-ltb, le-ltb}
+use borrow.Author.Tests.{leb-true, ltb-true, le-leb, lt-leb, lt-ltb}
 use lib.Dec.{leb, ltb}
 use lib.ListN.{length, take, drop, get_or, set, drop_of_length-le, length-set}
 use lib.Seq.{take-suc-set, append_snoc}
 use Rattle.model.specs.Basics.{last_or}
-use Rattle.std.specs.List.{list_all}
+use Rattle.std.specs.List.{list_all, zip}
+use Rattle.std.proofs.lemmas.List.Folds.{list_all-map}
 use Rattle.std.specs.Prelude.{Some, None}
 use Rattle.model.specs.Kind.{is_amount}
 use Rattle.model.specs.Pattern.{age, Age, ages_of, cumulative_ratio, cumulative, payments}
@@ -33,39 +34,17 @@ age_at (p ∷ paid) (c ∷ incurred) (suc i) e lt = age_at paid incurred i (omeg
 pub ages_length : (paid incurred : List ℕ) → Paired paid incurred → length (ages_of paid incurred) ≡ length paid
 ages_length paid incurred p = length_ages_of (length paid) paid incurred refl p.same
 
--- the test of one age, by the two comparisons
-pub incurred_none : (p i : ℕ) → i ≡ 0 → is_incurred (age p i) ≡ false
-incurred_none p i e = rw (le-ltb 0 i (omega arith))
+-- the ages of two lists as their pairs
+pairs : (paid incurred : List ℕ) → ages_of paid incurred ≡ map (λ (p : ℕ × ℕ). age p.0 p.1) (zip paid incurred)
+pairs [] incurred = refl
+pairs (p ∷ paid) [] = refl
+pairs (p ∷ paid) (i ∷ incurred) = ap (λ (ages : List Age). age p i ∷ ages) (pairs paid incurred)
 
-pub paid_above : (p i : ℕ) → i < p → is_incurred (age p i) ≡ false
-paid_above p i lt = by (ltb 0 i) (leb p i) (lt-leb p i lt)
-  where
-    by : (a b : Bool) → b ≡ false → a && b ≡ false
-    by true b e = e
-    by false b e = refl
+pub have_incurred : (paid incurred : List ℕ) → list_all (λ (p : ℕ × ℕ). is_incurred (age p.0 p.1)) (zip paid incurred) ≡ list_all is_incurred (ages_of paid incurred)
+have_incurred paid incurred = rw (pairs paid incurred) (sym (list_all-map is_incurred (λ (p : ℕ × ℕ). age p.0 p.1) (zip paid incurred)))
 
-pub incurred_some : (p i : ℕ) → (i ≡ 0 → ⊥) → p ≤ i → is_incurred (age p i) ≡ true
+incurred_some : (p i : ℕ) → (i ≡ 0 → ⊥) → p ≤ i → is_incurred (age p i) ≡ true
 incurred_some p i n le = rw (lt-ltb 0 i (omega arith), le-leb p i le)
-
--- the ages before place i pass the test
-abbrev pub Incurring : List ℕ → List ℕ → ℕ → Type 0
-Incurring paid incurred i = list_all is_incurred (ages_of paid incurred) ≡ list_all is_incurred (drop i (ages_of paid incurred))
-
-module _ (paid incurred : List ℕ) (i : ℕ) (g : Paired paid incurred) (s : Incurring paid incurred i) (lt : i < length paid) where
-  asked : list_all is_incurred (ages_of paid incurred) ≡ (is_incurred (age (get_or paid i 0) (get_or incurred i 0)) && list_all is_incurred (drop (i + 1) (ages_of paid incurred)))
-  asked = s ∙ rw (drop_next (ages_of paid incurred) i (age 0 0) (omega (arith, ages_length paid incurred g)), age_at paid incurred i g.same lt)
-
-  pub incurred_on : (get_or incurred i 0 ≡ 0 → ⊥) → get_or paid i 0 ≤ get_or incurred i 0 → Incurring paid incurred (i + 1)
-  incurred_on n le = asked ∙ rw (incurred_some (get_or paid i 0) (get_or incurred i 0) n le)
-
-  pub stop_at_none : get_or incurred i 0 ≡ 0 → false ≡ list_all is_incurred (ages_of paid incurred)
-  stop_at_none z = sym (asked ∙ rw (incurred_none (get_or paid i 0) (get_or incurred i 0) z))
-
-  pub stop_at_above : get_or incurred i 0 < get_or paid i 0 → false ≡ list_all is_incurred (ages_of paid incurred)
-  stop_at_above l = sym (asked ∙ rw (paid_above (get_or paid i 0) (get_or incurred i 0) l))
-
-pub incurred_end : (paid incurred : List ℕ) (i : ℕ) → Paired paid incurred → Incurring paid incurred i → length paid ≤ i → true ≡ list_all is_incurred (ages_of paid incurred)
-incurred_end paid incurred i g s le = sym (s ∙ rw (drop_of_length-le (ages_of paid incurred) {i = i} (omega (arith, ages_length paid incurred g))))
 
 -- an age of a payable record has a ratio
 pub sound_at : (paid incurred : List ℕ) (i : ℕ) → Payable paid incurred → i < length paid → Sound (get_or paid i 0) (get_or incurred i 0)

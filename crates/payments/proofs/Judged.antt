@@ -25,8 +25,8 @@ use Rattle.payments.specs.Payment.{Paired, Payable}
 use Rattle.payments.specs.PaidByAge.{Paid, PaidByAge}
 use Rattle.payments.specs.Schedule.{judged_of, listed_of, schedule_of, Listed, in_places, tailed}
 
--- what the loops over the ages are given
-pub paired : (letter : ℕ) (paid incurred : List ℕ) → Listed letter paid incurred → Paired paid incurred
+-- what the loop over the ages is given
+paired : (letter : ℕ) (paid incurred : List ℕ) → Listed letter paid incurred → Paired paid incurred
 paired letter paid incurred g = record { same = omega (arith, g.paid_length, g.incurred_length); few = omega (arith, g.paid_length, ages_small letter) }
 
 pub payable : (letter : ℕ) (paid incurred : List ℕ) → Listed letter paid incurred → list_all is_incurred (ages_of paid incurred) ≡ true → Payable paid incurred

@@ -3,7 +3,7 @@ ghost use Rattle.std.specs.Prelude.{◌≡◌, true};
 ghost use Rattle.std.specs.List.{list_all};
 ghost use Rattle.model.specs.Pattern.{ages_of};
 ghost use Rattle.model.specs.Question.{is_incurred};
-ghost use Rattle.payments.specs.Payment.{Paired, Payable};
+ghost use Rattle.payments.specs.Payment.{Payable};
 ghost use Rattle.payments.specs.PaidByAge.{PaidByAge};
 
 use crate::ratio::cumulative_ratio;
@@ -17,15 +17,11 @@ pub struct ByAge {
 
 // "is every incurred above 0 and no paid above its incurred?"
 pub fn has_incurred(paid: &[u64], incurred: &[u64]) -> bool
-    requires { Paired paid.now incurred.now }
     ensures { result ≡ list_all is_incurred (ages_of paid.now incurred.now) }
 {
-    for i in 0..paid.len() {
-        if incurred[i] == 0 || incurred[i] < paid[i] {
-            return false;
-        }
-    }
-    true
+    paid.iter()
+        .zip(incurred)
+        .all(|(&paid, &incurred)| incurred > 0 && paid <= incurred)
 }
 
 // "The payment at an age is its cumulative less the one before (at age 1, the cumulative).": none where a ratio falls.

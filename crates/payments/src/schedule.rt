@@ -22,10 +22,10 @@ pub fn all_ages(letter: u8) -> usize
 pub fn schedule_of(letter: u8, paid: &[u64], incurred: &[u64]) -> Result<[u64; 16], Refusal>
     ensures { result ≡ schedule_of letter paid.now incurred.now }
 {
-    if letter::is_covered(letter) {
-        return ask_lists(letter, paid, incurred);
+    if !letter::is_covered(letter) {
+        return Err(Refusal::UncoveredLetter);
     }
-    Err(Refusal::UncoveredLetter)
+    ask_lists(letter, paid, incurred)
 }
 
 // Questions 4 and 6, and on.
@@ -39,10 +39,13 @@ fn ask_lists(letter: u8, paid: &[u64], incurred: &[u64]) -> Result<[u64; 16], Re
     if incurred.len() != ages {
         return Err(Refusal::WrongCount);
     }
-    if Amount::all(paid) && Amount::all(incurred) {
-        return judge(letter, paid, incurred);
+    if !Amount::all(paid) {
+        return Err(Refusal::OutsideLimits);
     }
-    Err(Refusal::OutsideLimits)
+    if !Amount::all(incurred) {
+        return Err(Refusal::OutsideLimits);
+    }
+    judge(letter, paid, incurred)
 }
 
 // Questions 11 and 12.
@@ -50,13 +53,13 @@ fn judge(letter: u8, paid: &[u64], incurred: &[u64]) -> Result<[u64; 16], Refusa
     requires { Listed letter paid.now incurred.now }
     ensures { result ≡ judged_of letter paid.now incurred.now }
 {
-    if has_incurred(paid, incurred) {
-        let Some(given) = payments(paid, incurred) else {
-            return Err(Refusal::RatioFalls);
-        };
-        return Ok(with_tail(letter, given.pay, given.last));
+    if !has_incurred(paid, incurred) {
+        return Err(Refusal::IncurredTooSmall);
     }
-    Err(Refusal::IncurredTooSmall)
+    let Some(given) = payments(paid, incurred) else {
+        return Err(Refusal::RatioFalls);
+    };
+    Ok(with_tail(letter, given.pay, given.last))
 }
 
 // The payments at all ages, and zeros.

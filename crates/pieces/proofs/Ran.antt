@@ -3,6 +3,7 @@
 use mathlib.Core.List.{List, ◌++◌}
 use mathlib.Core.Path.{◌≡◌, refl, ap, ◌∙◌}
 use Prim.Native.Nat.{ℕ}
+use lib.ListN.{take}
 use Rattle.model.specs.Book.{Book, empty}
 use Rattle.model.specs.Answer.{done_text}
 use Rattle.model.specs.Run.{run, after, records_of}
@@ -10,12 +11,13 @@ use Rattle.model.proofs.Demand.{demand_of_input}
 use Rattle.state.specs.declared.book.Book as code
 use Rattle.state.specs.View.{view}
 use Rattle.state.proofs.EmptyBook.{empty_shown}
+use Rattle.pieces.specs.declared.answer_line.Answered.{Answered}
 use Rattle.pieces.specs.declared.feed.Run.{Run}
 use Rattle.pieces.specs.Progress.{Progress, start, taking_all, at_end}
 use Rattle.pieces.specs.Feed.{bytes_of, progress_of, Leads, IsStart, Closes, PutsDone}
 use Rattle.pieces.specs.Ran.{FedInTurn, none, one, Ran, ran, IsRun}
 use Rattle.pieces.proofs.Pieces.{Ends, run_is}
-use Rattle.pieces.proofs.Written.{after_text, at_end_after, leads_none, leads_here, leads_on, feed_leads}
+use Rattle.pieces.proofs.Written.{after_text, at_end_after, text_put, leads_none, leads_here, leads_on, feed_leads}
 
 -- `feed`s in turn are one
 pub turns_lead : {begun : Run} {first taken written : List ℕ} {run : Run} {store : List ℕ} → FedInTurn begun first taken written run store → Leads begun first taken written run store
@@ -43,16 +45,20 @@ module _ (begun : Run) (first input written : List ℕ) (last : Run) (store : Li
   unfolding run
   all_written_lem = model.text
 
-  module _ (a : code.Book) (later_store later_out : List ℕ) (c : Closes last store a later_store later_out) (last_out : List ℕ) (d : PutsDone a last_out) where
-    last_book : view a later_store ≡ after empty (records_of input)
+  module _ (out : List ℕ) (a : Answered) (later_store later_out : List ℕ) (c : Closes last store out a later_store later_out) (done_out : List ℕ) (put : ℕ) (last_out : List ℕ) (d : PutsDone a.book done_out put last_out) where
+    last_book : view a.book later_store ≡ after empty (records_of input)
     last_book = c.reached.later ∙ model.book
 
-    all_put : (written ++ later_out) ++ last_out ≡ run input
-    all_put = rw (c.reached.puts, d.puts, ap (λ (b : Book). done_text b.accepted b.refused) c.reached.later) all_written_lem
+    all_put : (written ++ take a.next later_out) ++ take put last_out ≡ run input
+    all_put =
+        let answer : take a.next later_out ≡ end.written = text_put out _ later_out a.next c.reached.puts in
+        let counts : take put last_out ≡ done_text end.book.accepted end.book.refused =
+        text_put done_out _ last_out put d.puts ∙ ap (λ (b : Book). done_text b.accepted b.refused) c.reached.later in
+        rw (answer, counts) all_written_lem
 
-    is_run : IsRun input ((written ++ later_out) ++ last_out) a later_store
+    is_run : IsRun input ((written ++ take a.next later_out) ++ take put last_out) a.book later_store
     is_run = record { text = all_put; later = last_book; demand = rw last_book (demand_of_input input) }
 
 -- whatever the input and however it is cut
 pub run_of_code : {input written : List ℕ} {book : code.Book} {store : List ℕ} → Ran input written book store → IsRun input written book store
-run_of_code (ran s f c d) = is_run _ _ _ _ _ _ s (turns_lead f) _ _ _ c _ d
+run_of_code (ran s f c d) = is_run _ _ _ _ _ _ s (turns_lead f) _ _ _ _ c _ _ _ d

@@ -27,9 +27,9 @@ some : (size : ℕ) (bytes : List ℕ) (s : Progress) → length s.written + 320
 some size [] s room lt = absurd (omega arith)
 some size (b ∷ rest) s room lt = rw (takes_one size s b rest room) (omega arith)
 
-module _ (size : ℕ) (run : Run) (store piece : List ℕ) (r : Fed) (later_store later_out : List ℕ) (f : Feeds size run store piece r later_store later_out) where
+module _ (run : Run) (store piece out : List ℕ) (r : Fed) (later_store later_out : List ℕ) (f : Feeds run store piece out r later_store later_out) where
   pub taken_few : r.taken ≤ length piece
-  taken_few = rw f.taken (few size piece (progress_of run store))
+  taken_few = rw f.taken (few (length out) piece (progress_of run store))
 
-  pub taken_some : 320 ≤ size → 0 < length piece → 0 < r.taken
-  taken_some room lt = rw f.taken (some size piece (progress_of run store) (omega arith) lt)
+  pub taken_some : 320 ≤ length out → 0 < length piece → 0 < r.taken
+  taken_some room lt = rw f.taken (some (length out) piece (progress_of run store) (omega arith) lt)

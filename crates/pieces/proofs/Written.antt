@@ -3,9 +3,12 @@
 use mathlib.Core.List.{List, [], ◌∷◌, ◌++◌, append_assoc, append-nil}
 use mathlib.Core.Path.{◌≡◌, refl, sym, ap, ◌∙◌}
 use mathlib.Core.Bool.{Bool, true, false}
-use Prim.Native.Nat.{ℕ}
+use Prim.Native.Nat.{ℕ, ◌+◌, ◌≤◌}
+use native.Mathlib.Omega.{arith}
 use lib.Dec.{eqb}
-use lib.ListN.{take}
+use lib.ListN.{length, take, drop, length-append}
+use lib.Seq.{take_at}
+use Rattle.answer.specs.Put.{placed, Puts}
 use Rattle.pieces.specs.declared.feed.Run.{Run}
 use Rattle.pieces.specs.declared.feed.Fed.{Fed}
 use Rattle.pieces.specs.Progress.{Progress, ended, lengthened, taking, taking_all, at_end}
@@ -44,6 +47,16 @@ pub at_end_after : (text : List ℕ) (s : Progress) (line : List ℕ) → s.line
 at_end_after text s [] e = at_end_none (after_text text s) e ∙ ap (after_text text) (sym (at_end_none s e))
 at_end_after text s (b ∷ line) e = at_end_some (after_text text s) b line e ∙ ended_after text s ∙ ap (after_text text) (sym (at_end_some s b line e))
 
+-- a text that was put is the front of the buffer
+module _ (out text later : List ℕ) (put : ℕ) (p : Puts out 0 text later put) where
+  pub text_put : take put later ≡ text
+  unfolding placed
+  text_put = rw p.whole (take_at text _ put (sym (p.after_it ∙ omega arith)))
+
+  pub put_inside : put ≤ length later
+  unfolding placed
+  put_inside = rw (p.whole, length-append text (drop (0 + length text) out)) (omega (arith, p.after_it))
+
 -- no bytes leave a run where it is, and some bytes and the next ones lead on
 pub leads_none : (run : Run) (store : List ℕ) → Leads run store [] [] run store
 unfolding taking_all
@@ -72,10 +85,10 @@ texts_join run store bytes middle middle_store l more =
     ap (λ (s : Progress). s.written) joined
 
 -- what `feed` promises
-pub feed_leads : (size : ℕ) (run : Run) (store piece : List ℕ) (r : Fed) (later_store later_out : List ℕ) → Feeds size run store piece r later_store later_out
-    → Leads run store (take r.taken piece) later_out r.run later_store
-feed_leads size run store piece r later_store later_out f =
+pub feed_leads : (run : Run) (store piece out : List ℕ) (r : Fed) (later_store later_out : List ℕ) → Feeds run store piece out r later_store later_out
+    → Leads run store (take r.taken piece) (take r.put later_out) r.run later_store
+feed_leads run store piece out r later_store later_out f =
     let s : Progress = taking_all (progress_of run store) (take r.taken piece) in
     record {
-      progress = rw (f.reached.later, ← f.reached.own, ← f.reached.lent, open_bytes r.run.line s.line f.unended, f.reached.puts);
+      progress = rw (f.reached.later, ← f.reached.own, ← f.reached.lent, open_bytes r.run.line s.line f.unended, text_put out s.written later_out r.put f.reached.puts);
     }

@@ -4,35 +4,36 @@ ghost use Rattle.pieces.specs.Feed.{Answers};
 
 use crate::line::OpenLine;
 use answer::text::put_answer;
-use arrayvec::ArrayVec;
 use journal::apply::apply;
 use state::book::Book;
 use state::store::Store;
 
-// The later book.
-pub fn answer_line<const N: usize>(
-    book: Book,
-    store: &mut Store,
-    line: &[u8],
-    out: &mut ArrayVec<u8, N>,
-) -> Book
-    ensures { Answers N book store.old line.now out.old.items result store.new out.new.items }
+// The book that the lines so far leave, and the place after their texts.
+#[derive(Clone, Copy)]
+pub struct Answered {
+    pub book: Book,
+    pub next: usize,
+}
+
+pub fn answer_line(last: Answered, store: &mut Store, line: &[u8], out: &mut [u8]) -> Answered
+    ensures { Answers last.book store.old line.now out.old last.next result store.new out.new }
 {
-    let outcome = apply(book, store, line);
-    put_answer(out, outcome.answer, store);
-    outcome.book
+    let outcome = apply(last.book, store, line);
+    let next = put_answer(out, last.next, outcome.answer, store);
+    let book = outcome.book;
+    Answered { book, next }
 }
 
 // A line of which a piece before this one held the start.
-pub fn answer_joined<const N: usize>(
-    book: Book,
+pub fn answer_joined(
+    last: Answered,
     store: &mut Store,
     begun: &[u8],
     rest: &[u8],
-    out: &mut ArrayVec<u8, N>,
-) -> Book
-    ensures { Answers N book store.old (begun.now ++ rest.now) out.old.items result store.new out.new.items }
+    out: &mut [u8],
+) -> Answered
+    ensures { Answers last.book store.old (begun.now ++ rest.now) out.old last.next result store.new out.new }
 {
     let line = OpenLine::join(begun, rest);
-    answer_line(book, store, line.as_slice(), out)
+    answer_line(last, store, line.as_slice(), out)
 }

@@ -1,11 +1,10 @@
 // A piece of the input: its lines answered one after the other, and the line that it leaves open.
 ghost use Rattle.pieces.specs.Feed.{IsStart, Feeds, Closes, PutsDone};
 
-use crate::answer_line::answer_line;
+use crate::answer_line::{Answered, answer_line};
 use crate::answer_lines::answer_lines;
 use crate::line::OpenLine;
 use answer::text::{has_room, put_done};
-use arrayvec::ArrayVec;
 use state::book::{Book, empty};
 use state::store::Store;
 
@@ -16,11 +15,12 @@ pub struct Run {
     pub line: OpenLine,
 }
 
-// The run after the bytes that were taken.
+// The run after the bytes that were taken, and how long the text is that was put.
 #[derive(Clone, Copy)]
 pub struct Fed {
     pub run: Run,
     pub taken: usize,
+    pub put: usize,
 }
 
 // Before the first byte.
@@ -33,44 +33,43 @@ pub fn start(store: &mut Store) -> Run
     }
 }
 
-// Takes the bytes of a piece as long as the longest text has room. The buffer then has the answers, and nothing else.
-pub fn feed<const N: usize>(
-    run: Run,
-    store: &mut Store,
-    piece: &[u8],
-    out: &mut ArrayVec<u8, N>,
-) -> Fed
-    ensures { Feeds N run store.old piece.now result store.new out.new.items }
+// Takes the bytes of a piece, and puts the answers from the start of `out` on, as long as the longest text has room.
+pub fn feed(run: Run, store: &mut Store, piece: &[u8], out: &mut [u8]) -> Fed
+    ensures { Feeds run store.old piece.now out.old result store.new out.new }
 {
-    out.clear();
     let begun = run.line.as_slice();
     let lines = answer_lines(run.book, store, begun, piece, out);
     // Where the longest text still has room, no line ends in the rest, and it is taken too.
-    let taken = if has_room(out) { piece.len() } else { lines.at };
+    let taken = if has_room(out, lines.put) {
+        piece.len()
+    } else {
+        lines.at
+    };
     let line = OpenLine::join(&begun[..lines.begun], &piece[lines.at..taken]);
     let book = lines.book;
     Fed {
         run: Run { book, line },
         taken,
+        put: lines.put,
     }
 }
 
-// The end of input: the last line, if one is open, is a record. The buffer then has its answer, and nothing else.
-pub fn close(run: Run, store: &mut Store, out: &mut ArrayVec<u8, 65536>) -> Book
-    ensures { Closes run store.old result store.new out.new.items }
+// The end of input: the last line, if one is open, is a record.
+pub fn close(run: Run, store: &mut Store, out: &mut [u8; 65536]) -> Answered
+    ensures { Closes run store.old out.old result store.new out.new }
 {
-    out.clear();
+    let book = run.book;
+    let last = Answered { book, next: 0 };
     let line = run.line.as_slice();
     if line.is_empty() {
-        return run.book;
+        return last;
     }
-    answer_line(run.book, store, line, out)
+    answer_line(last, store, line, out)
 }
 
-// "DONE closes every run: accepted, refused.": the counts of the last book, and nothing else.
-pub fn done(book: Book, out: &mut ArrayVec<u8, 65536>)
-    ensures { PutsDone book out.new.items }
+// "DONE closes every run: accepted, refused.": the counts of the last book.
+pub fn done(book: Book, out: &mut [u8; 65536]) -> usize
+    ensures { PutsDone book out.old result out.new }
 {
-    out.clear();
-    put_done(out, book.accepted, book.refused);
+    put_done(out, 0, book.accepted, book.refused)
 }

@@ -1,9 +1,9 @@
 -- The sixty months of an accident year are sixty cells of the store, one after the other.
 -- Assumes nothing.
-use Rattle.std.specs.Prelude.{is_some, unwrap_or}
+use Rattle.std.specs.Prelude.{Option, Some, is_some, unwrap_or}
 use mathlib.Core.Bool.{true}
 use mathlib.Core.List.{List, [], ◌∷◌, ◌++◌, map}
-use mathlib.Core.Path.{◌≡◌, refl, ap, ◌∙◌}
+use mathlib.Core.Path.{◌≡◌, refl, sym, ap, ◌∙◌}
 use Prim.Native.Nat.{ℕ, zero, suc, ◌+◌, ◌-◌, ◌≤◌}
 use native.Mathlib.Omega.{arith}
 use borrow.Table.Elements.{map_app}
@@ -18,13 +18,18 @@ use Rattle.model.specs.Rate.{twelve_months, sixty_months}
 use Rattle.state.specs.Store.{piece, size}
 use Rattle.state.specs.Months.{january_of, month_start, month_in, register_of}
 use Rattle.state.proofs.RatePlaces.{first_year, year_place}
+use Rattle.register.specs.declared.date.Date.{Date}
+use Rattle.register.specs.Date.{date_of}
+use Rattle.register.proofs.Dates.{found}
 use Rattle.register.specs.Sixty.{sixty_cells, cell_given, cell_rate, has_sixty, rates_taken}
 
-pub cells_are : (store : List ℕ) (year at : ℕ) → at ≡ month_start (year - 5) 1 → take (at + 60 - at) (drop at store) ≡ sixty_cells store year
+-- the cells from that of a date on
+pub cells_are : (store : List ℕ) (year n : ℕ) → n ≡ year → (o : Option Date) → o ≡ date_of (n - 5) 1 → (d : Date) → o ≡ Some d → (at : ℕ) → at ≡ month_start d.year d.month → take (at + 60 - at) (drop at store) ≡ sixty_cells store year
 unfolding piece
-cells_are store year at ea =
+cells_are store year n en o eo d e at ea =
     let few : at + 60 - at ≡ 60 = omega arith in
-    rw (few, ea)
+    let first : d ≡ record { year = n - 5; month = 1 } = (found (n - 5) 1 d (sym eo ∙ e)).1 in
+    rw (few, ea, first, en)
 
 -- n cells from place at + k on, each where it lies
 abbrev cells_from : List ℕ → ℕ → ℕ → ℕ → List ℕ

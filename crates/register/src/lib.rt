@@ -2,5 +2,6 @@
 #![tactic(auto)]
 
 mod cell;
+pub mod date;
 pub mod month;
 pub mod sixty;

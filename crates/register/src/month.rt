@@ -3,16 +3,15 @@ ghost use Rattle.std.specs.Prelude.{◌≡◌};
 ghost use Rattle.state.specs.Months.{is_date, register_of, with_month_of};
 
 use crate::cell::{month_start, rate_in_cell};
-use kinds::month::Month;
+use crate::date::Date;
 use kinds::rate::Rate;
-use kinds::register_year::RegisterYear;
 use state::store::Store;
 
 // "year (1980 to 2099), month (1 to 12)": has the month a cell?
 pub fn is_date(year: u64, month: u64) -> bool
     ensures { result ≡ is_date year month }
 {
-    RegisterYear::contains(year) && Month::contains(month)
+    Date::new(year, month).is_some()
 }
 
 // The federal mid-term rate of a month, or that none was given. A month that is not from January 1980 to December 2099 has none.
@@ -20,11 +19,8 @@ pub fn is_date(year: u64, month: u64) -> bool
 pub fn month_of(store: &Store, year: u64, month: u64) -> Option<Rate>
     ensures { result ≡ register_of store.now year month }
 {
-    if is_date(year, month) {
-        rate_in_cell(store[month_start(year, month)])
-    } else {
-        None
-    }
+    let date = Date::new(year, month)?;
+    rate_in_cell(store[month_start(date)])
 }
 
 // The store with a month's rate: as it was, where the month has no cell.
@@ -32,7 +28,7 @@ pub fn month_of(store: &Store, year: u64, month: u64) -> Option<Rate>
 pub fn keep_month(store: &mut Store, year: u64, month: u64, rate: Rate)
     ensures { store.new ≡ with_month_of store.old year month rate }
 {
-    if is_date(year, month) {
-        store[month_start(year, month)] = rate.number() + 1;
+    if let Some(date) = Date::new(year, month) {
+        store[month_start(date)] = rate.number() + 1;
     }
 }

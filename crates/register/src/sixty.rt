@@ -1,10 +1,10 @@
 // "RATE with a year alone then takes the sixty months from January five years before to December of the year before."
-ghost use Rattle.std.specs.Prelude.{true, map, ◌≡◌, length};
+ghost use Rattle.std.specs.Prelude.{map, ◌≡◌, length};
 ghost use Rattle.std.specs.List.{list_all};
-ghost use Rattle.model.specs.Kind.{is_year};
 ghost use Rattle.register.specs.Sixty.{sixty_cells, cell_given, cell_rate, has_sixty, rates_taken, given_sixty};
 
 use crate::cell::{month_start, rate_in_cell};
+use crate::date::Date;
 use kinds::month::MonthLimits;
 use kinds::within::Limits;
 use kinds::year::Year;
@@ -15,7 +15,7 @@ use state::store::Store;
 pub fn has_sixty(store: &Store, year: u64) -> bool
     ensures { result ≡ has_sixty store.now year }
 {
-    Year::contains(year) && are_given(sixty_cells(store, year))
+    Year::new(year).is_some_and(|year| are_given(sixty_cells(store, year)))
 }
 
 // The rates of the sixty, 0 for one that is not given. Of a year that is none from 1987 to 2099, all 0.
@@ -23,10 +23,9 @@ pub fn has_sixty(store: &Store, year: u64) -> bool
 pub fn sixty_rates(store: &Store, year: u64) -> [u64; 60]
     ensures { result ≡ rates_taken store.now year }
 {
-    if Year::contains(year) {
-        rates_in(sixty_cells(store, year))
-    } else {
-        [0; 60]
+    match Year::new(year) {
+        Some(year) => rates_in(sixty_cells(store, year)),
+        None => [0; 60],
     }
 }
 
@@ -42,11 +41,12 @@ pub fn given_sixty(store: &Store, year: u64) -> Option<[u64; 60]>
 }
 
 // The cells of the sixty months.
-fn sixty_cells(store: &Store, year: u64) -> &[u64]
-    requires { is_year year ≡ true }
+#[tactic(auto, using(crate::proofs::Sixties::cells_are))]
+fn sixty_cells(store: &Store, year: Year) -> &[u64]
     ensures { result.now ≡ sixty_cells store.now year }
 {
-    let at = month_start(year - 5, MonthLimits::LEAST);
+    let first = Date::new(year.number() - 5, MonthLimits::LEAST).unwrap();
+    let at = month_start(first);
     &store[at..at + 60]
 }
 

@@ -1,54 +1,42 @@
--- The sum of the paid, as the loop has it in the bits of an i64: how far it is, that it fits, and what it is in the end.
+-- The sum of the paid, as the library's `sum` makes it: that it fits, and what it is.
 -- Assumes nothing.
-use mathlib.Core.Path.{◌≡◌, sym, ◌∙◌}
-use mathlib.Core.List.{List}
-use Prim.Native.Nat.{ℕ, suc, ◌+◌, ◌*◌, ◌≤◌, ◌<◌, ◌^◌}
+use mathlib.Core.Bool.{true}
+use mathlib.Core.Path.{◌≡◌, sym, ap, ◌∙◌}
+use mathlib.Core.List.{List, [], ◌∷◌, map}
+use Prim.Native.Nat.{ℕ, ◌+◌, ◌*◌, ◌≤◌}
 use native.Mathlib.Omega.{arith}
-use native.Mathlib.Numerals.{add-one}
 use borrow.Author.Tests.{leb-true}
-use lib.ListN.{length, drop, get_or, drop_of_length-le}
-use lib.Seq.{drop-cons}
+use lib.ListN.{length}
 use lib.IntN.{ℤ, pos, nat_abs, ◌+ℤ◌, +ℤ_idl, +ℤ_idr, +ℤ_assoc}
 use mir.Syntax.{w64}
-use mir.Val.{SFits, to_z, of_z}
+use mir.Val.{SFits}
+use Rattle.std.specs.List.{list_all, fold}
 use Rattle.model.specs.Kind.{is_paid}
-use Rattle.model.proofs.Lists.{all_at}
-use Rattle.money.proofs.Signed.{sum_size, size_fits, read_back}
+use Rattle.model.proofs.Lists.{and_left, and_right}
+use Rattle.money.proofs.Signed.{sum_size, size_fits}
 use Rattle.reserve.specs.Lists.{PaidList, paid_sum}
 
--- the paid before place i are in the sum
-pub record Summed (paid : List ℤ) (sum : ℤ) (i : ℕ) : Type 0 where
-  pub inside : i ≤ length paid
-  pub size : nat_abs sum ≤ 10000000000 * i
-  pub rest : sum +ℤ paid_sum (drop i paid) ≡ paid_sum paid
+-- the sizes of a list of paid together
+abbrev pub sizes : ℕ → List ℤ → ℕ
+sizes n paid = fold (λ (n : ℕ) (v : ℤ). n + nat_abs v) n paid
 
-pub start : (paid : List ℤ) → Summed paid (pos 0) 0
-start paid = record { inside = omega arith; size = omega arith; rest = +ℤ_idl (paid_sum paid) }
+sizes_small : (paid : List ℤ) (n : ℕ) → list_all is_paid paid ≡ true → sizes n paid ≤ n + 10000000000 * length paid
+sizes_small [] n e = omega arith
+sizes_small (v ∷ paid) n e =
+    omega (arith, leb-true (nat_abs v) 10000000000 (and_left (is_paid v) (list_all is_paid paid) e), sizes_small paid (n + nat_abs v) (and_right (is_paid v) (list_all is_paid paid) e))
 
-pub end : (paid : List ℤ) (sum : ℤ) (i : ℕ) → Summed paid sum i → length paid ≤ i → sum ≡ paid_sum paid
-end paid sum i s le = sym (+ℤ_idr sum) ∙ rw (drop_of_length-le paid le) at s.rest
+-- a sum is at most the sizes of what is added
+sum_sizes : {A : Type 0} (read : A → ℤ) (xs : List A) (sum : ℤ) (n : ℕ) → nat_abs sum ≤ n → nat_abs (fold (λ (s : ℤ) (x : A). s +ℤ read x) sum xs) ≤ fold (λ (n : ℕ) (x : A). n + nat_abs (read x)) n xs
+sum_sizes read [] sum n le = le
+sum_sizes read (x ∷ xs) sum n le = sum_sizes read xs (sum +ℤ read x) (n + nat_abs (read x)) (omega (arith, sum_size sum (read x), le))
 
-abbrev here : List ℤ → ℕ → ℤ
-here paid i = get_or paid i (pos 0)
+pub sum_fits : {A : Type 0} (read : A → ℤ) (xs : List A) (paid : List ℤ) → PaidList paid → (all : List ℤ) → all ≡ paid → fold (λ (n : ℕ) (x : A). n + nat_abs (read x)) 0 xs ≤ sizes 0 all → SFits w64 (fold (λ (s : ℤ) (x : A). s +ℤ read x) (pos 0) xs)
+sum_fits read xs paid given all e le = size_fits _ (omega (arith, sum_sizes read xs (pos 0) 0 (omega arith), rw e at le, sizes_small paid 0 given.limits, given.few))
 
-module _ (paid : List ℤ) (sum : ℤ) (i : ℕ) (given : PaidList paid) (s : Summed paid sum i) (lt : i < length paid) where
-  here_size : nat_abs (here paid i) ≤ 10000000000
-  here_size = leb-true (nat_abs (here paid i)) 10000000000 (all_at is_paid paid i (pos 0) given.limits lt)
+-- the sum from the first on is the sum of the paid
+sum_is : {A : Type 0} (read : A → ℤ) (xs : List A) (sum : ℤ) → fold (λ (s : ℤ) (x : A). s +ℤ read x) sum xs ≡ sum +ℤ paid_sum (map read xs)
+sum_is read [] sum = sym (+ℤ_idr sum)
+sum_is read (x ∷ xs) sum = sum_is read xs (sum +ℤ read x) ∙ +ℤ_assoc sum (read x) (paid_sum (map read xs))
 
-  here_read : to_z w64 (of_z w64 (here paid i)) ≡ here paid i
-  here_read = read_back (here paid i) (omega (arith, here_size))
-
-  on_size : nat_abs (sum +ℤ here paid i) ≤ 10000000000 * (i + 1)
-  on_size = omega (arith, sum_size sum (here paid i), here_size, s.size)
-
-  on_small : nat_abs (sum +ℤ here paid i) < 2 ^ 63
-  on_small = omega (arith, on_size, given.few)
-
-  on_rest : (sum +ℤ here paid i) +ℤ paid_sum (drop (i + 1) paid) ≡ paid_sum paid
-  on_rest = rw add-one (+ℤ_assoc sum (here paid i) (paid_sum (drop (suc i) paid)) ∙ rw (drop-cons paid i (pos 0) lt) at s.rest)
-
-  pub fits : SFits w64 (sum +ℤ to_z w64 (of_z w64 (here paid i)))
-  fits = rw here_read (size_fits (sum +ℤ here paid i) on_small)
-
-  pub on : Summed paid (to_z w64 (of_z w64 (sum +ℤ to_z w64 (of_z w64 (here paid i))))) (i + 1)
-  on = rw (here_read, read_back (sum +ℤ here paid i) on_small) record { inside = omega arith; size = on_size; rest = on_rest }
+pub summed : {A : Type 0} (read : A → ℤ) (xs : List A) (paid : List ℤ) → map read xs ≡ paid → (r : ℤ) → r ≡ fold (λ (s : ℤ) (x : A). s +ℤ read x) (pos 0) xs → r ≡ paid_sum paid
+summed read xs paid e r er = er ∙ sum_is read xs (pos 0) ∙ +ℤ_idl (paid_sum (map read xs)) ∙ ap paid_sum e

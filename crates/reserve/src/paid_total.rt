@@ -6,9 +6,5 @@ pub fn paid_total(paid: &[i64]) -> i64
     requires { PaidList paid.now }
     ensures { result ≡ paid_sum paid.now }
 {
-    let mut total: i64 = 0;
-    for &payment in paid {
-        total += payment;
-    }
-    total
+    paid.iter().sum()
 }

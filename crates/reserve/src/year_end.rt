@@ -31,10 +31,10 @@ pub fn year_end(
 ) -> Result<YearEnd, Refusal>
     ensures { result ≡ year_end letter paid.now unpaid.now tabular.now factors.now opening }
 {
-    if is_covered(letter) {
-        return end_rows(letter, paid, unpaid, tabular, factors, opening);
+    if !is_covered(letter) {
+        return Err(Refusal::UncoveredLetter);
     }
-    Err(Refusal::UncoveredLetter)
+    end_rows(letter, paid, unpaid, tabular, factors, opening)
 }
 
 // Questions 4 and 6, and the figures.

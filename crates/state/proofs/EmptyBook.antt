@@ -3,7 +3,7 @@
 use Rattle.std.specs.Prelude.{None}
 use mathlib.Core.Bool.{Bool, true, false}
 use mathlib.Core.Path.{◌≡◌, refl, ◌∙◌, fun_ext}
-use Prim.Native.Nat.{ℕ, zero, suc, ◌+◌, ◌-◌, ◌<◌}
+use Prim.Native.Nat.{ℕ, ◌+◌, ◌-◌, ◌<◌}
 use native.Mathlib.Omega.{arith}
 use lib.ListN.{get_or, replicate, get_or-replicate}
 use Rattle.model.specs.Kind.{is_year}
@@ -17,6 +17,7 @@ use Rattle.state.specs.Lines.{line_start, no_line, line_at}
 use Rattle.state.specs.Patterns.{kept_back}
 use Rattle.state.specs.View.{line_of, lines_of, view, empty_book, empty_store}
 use Rattle.state.proofs.Pieces as pieces
+use Rattle.state.proofs.Pieces.{zero_cell}
 use Rattle.state.proofs.RatePlaces.{year_place}
 use Rattle.state.proofs.TotalPieces.{zeros_where_none_closed}
 
@@ -24,11 +25,6 @@ no_rate : (year : ℕ) (t : Bool) → is_year year ≡ t → rates_of (replicate
 unfolding rates_of
 no_rate year true e = rw (e, get_or-replicate {A = ℕ} 113 (year - 1987) 65535 0 (year_place year e))
 no_rate year false e = rw e
-
-zero_cell : (n i : ℕ) → get_or {A = ℕ} (replicate n 0) i 0 ≡ 0
-zero_cell zero i = refl
-zero_cell (suc n) zero = refl
-zero_cell (suc n) (suc i) = zero_cell n i
 
 cleared : (letter at : ℕ) → line_in letter (piece empty_store at 6) ≡ no_line
 unfolding line_in

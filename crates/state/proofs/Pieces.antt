@@ -3,12 +3,12 @@
 use mathlib.Core.Path.{◌≡◌, refl}
 use mathlib.Core.List.{List, [], ◌∷◌, ◌++◌, append_assoc}
 use mathlib.Core.Logic.{◌⊎◌, inl, inr, ⊎_elim}
-use Prim.Native.Nat.{ℕ, suc, ◌+◌, ◌-◌, ◌≤◌, ◌<◌}
+use Prim.Native.Nat.{ℕ, zero, suc, ◌+◌, ◌-◌, ◌≤◌, ◌<◌}
 use native.Mathlib.Omega.{arith}
 use native.Mathlib.Nat.{eq-zero-or-pos}
 use native.Mathlib.Numerals.{add-one}
 use borrow.Rule.Slice.PartMut.{put_mid}
-use lib.ListN.{length, take, drop, get_or, set, length-append, length-drop, take-append-drop}
+use lib.ListN.{length, take, drop, get_or, set, replicate, length-append, length-drop, take-append-drop}
 use lib.Seq.{length-take-le, take_at, drop_at, take-append-le, drop-append-le, drop-drop, drop-cons, get_or-take, get_or-drop, set_at, set_split}
 use Rattle.state.specs.Store.{piece, written}
 
@@ -93,3 +93,9 @@ unfolding written
 written_over store cells at middle e =
     let n : at + length cells - at ≡ length cells = omega arith in
     rw (e, n, drop-drop (length cells) at store)
+
+-- a cell of zeros, and one past their end
+pub zero_cell : (n i : ℕ) → get_or {A = ℕ} (replicate n 0) i 0 ≡ 0
+zero_cell zero i = refl
+zero_cell (suc n) zero = refl
+zero_cell (suc n) (suc i) = zero_cell n i

@@ -1,14 +1,16 @@
 -- A slot written: it holds its cells, every other slot is as it was, and so are the lines, the totals and the register.
 -- Assumes nothing.
-use Rattle.std.specs.Prelude.{Option}
+use Rattle.std.specs.Prelude.{Option, None, Some}
 use mathlib.Core.Bool.{Bool, true, false}
 use mathlib.Core.List.{List, [], ◌∷◌, ◌++◌}
 use mathlib.Core.Logic.{⊎_elim}
-use mathlib.Core.Path.{◌≡◌, refl, ◌∙◌}
+use mathlib.Core.Path.{◌≡◌, refl, sym, ◌∙◌}
 use Prim.Native.Nat.{ℕ, ◌+◌, ◌*◌, ◌%◌, ◌≤◌, ◌<◌}
 use native.Mathlib.Omega.{arith}
-use lib.ListN.{length, drop, get_or, set, replicate, get_or-replicate, length-take, get_or-eq_default}
+use lib.ListN.{length, drop, get_or, set, length-take, get_or-eq_default}
 use Rattle.model.specs.Letter.{covered}
+use Rattle.kinds.proofs.Taken.{taken, outside}
+use Rattle.letters.specs.Covered.{covered_letter}
 use Rattle.state.specs.Store.{piece, written, slots_start, size}
 use Rattle.state.specs.Lines.{place_of, line_at}
 use Rattle.state.specs.Patterns.{slot_start, slot_at, factor_in, factor_at, with_slot_of}
@@ -17,33 +19,37 @@ use Rattle.state.specs.Months.{register_of}
 use Rattle.state.proofs.Places.{covered_place, places_differ}
 use Rattle.state.proofs.Regions.{lines_before, totals_past, register_past}
 use Rattle.state.proofs.Pieces as pieces
-use Rattle.state.proofs.Pieces.{first_or_later, one_more_cell}
+use Rattle.state.proofs.Pieces.{first_or_later, one_more_cell, zero_cell}
 
 -- as code reads a cell of a slot
-module _ (store : List ℕ) (letter year place : ℕ) (t : Bool) (et : t ≡ covered letter) where
-  pub slot_read : t ≡ true → (at : ℕ) → at ≡ slot_start letter year → place ≤ 10 → (factor : ℕ) → factor ≡ factor_in (get_or store (at + place) 0) → factor ≡ factor_at store letter year place
+module _ (store : List ℕ) (letter year place : ℕ) (o : Option ℕ) (eo : o ≡ covered_letter letter) where
+  pub slot_read : (v : ℕ) → o ≡ Some v → (at : ℕ) → at ≡ slot_start v year → place ≤ 10 → (factor : ℕ) → factor ≡ factor_in (get_or store (at + place) 0) → factor ≡ factor_at store letter year place
   unfolding slot_at
-  slot_read c at e le factor r = rw (← et, c, pieces.cell store (slot_start letter year) 11 place (omega arith), ← e) r
+  slot_read v ev at e le factor r =
+      let t = taken covered letter v (sym eo ∙ ev) in
+      rw (t.0, pieces.cell store (slot_start letter year) 11 place (omega arith), ← t.1, ← e) r
 
-  pub no_slot : t ≡ false → place ≤ 10 → 0 ≡ factor_at store letter year place
+  pub no_slot : o ≡ None → 0 ≡ factor_at store letter year place
   unfolding slot_at
-  no_slot c le = rw (← et, c, get_or-replicate {A = ℕ} 11 place 0 0 (omega arith))
+  no_slot n = rw (outside covered letter (sym eo ∙ n), zero_cell 11 place)
 
 -- and none past its end
 past_by : (store : List ℕ) (letter year place : ℕ) (t : Bool) → covered letter ≡ t → 10 < place → 0 ≡ factor_at store letter year place
 unfolding slot_at piece
 past_by store letter year place true c lt =
     rw (c, get_or-eq_default (piece store (slot_start letter year) 11) 0 {n = place} (omega (arith, length-take 11 (drop (slot_start letter year) store))))
-past_by store letter year place false c lt = rw (c, get_or-eq_default (replicate {A = ℕ} 11 0) 0 {n = place} (omega arith))
+past_by store letter year place false c lt = rw (c, zero_cell 11 place)
 
 pub past_slot : (store : List ℕ) (letter year place : ℕ) → 10 < place → 0 ≡ factor_at store letter year place
 past_slot store letter year place lt = past_by store letter year place (covered letter) refl lt
 
 -- as code keeps a slot: ten factors, and then the composite
-module _ (store : List ℕ) (letter year : ℕ) (factors : List ℕ) (composite : ℕ) (t : Bool) (et : t ≡ covered letter) where
-  pub slot_kept : t ≡ true → (at : ℕ) → at ≡ slot_start letter year → at ≤ 1729 → length store ≡ size → length factors ≡ 10 → (middle : List ℕ) → middle ≡ written store at factors
+module _ (store : List ℕ) (letter year : ℕ) (factors : List ℕ) (composite : ℕ) (o : Option ℕ) (eo : o ≡ covered_letter letter) where
+  pub slot_kept : (v : ℕ) → o ≡ Some v → (at : ℕ) → at ≡ slot_start v year → at ≤ 1729 → length store ≡ size → length factors ≡ 10 → (middle : List ℕ) → middle ≡ written store at factors
       → set middle (at + 10) composite ≡ with_slot_of store letter year (factors ++ (composite ∷ []))
-  slot_kept c at ea le n l middle em = rw (← et, c, ← ea, em, ← l) (one_more_cell store factors at composite (omega arith))
+  slot_kept v ev at ea le n l middle em =
+      let t = taken covered letter v (sym eo ∙ ev) in
+      rw (t.0, ← t.1, ← ea, em, ← l) (one_more_cell store factors at composite (omega arith))
 
 module _ (store : List ℕ) (letter year : ℕ) (cells : List ℕ) (c : covered letter ≡ true) (n : length store ≡ size) (l : length cells ≡ 11) where
   abbrev later : List ℕ

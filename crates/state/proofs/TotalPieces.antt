@@ -1,15 +1,17 @@
 -- Totals written: they are read back, those of every other letter are as they were, and so are the lines, the slots and the register.
 -- Assumes nothing.
-use Rattle.std.specs.Prelude.{Option, None}
+use Rattle.std.specs.Prelude.{Option, None, Some}
 use mathlib.Core.Bool.{Bool, true, false}
 use mathlib.Core.List.{List, [], ◌∷◌}
 use mathlib.Core.Logic.{⊎_elim}
-use mathlib.Core.Path.{◌≡◌, refl, ◌∙◌}
+use mathlib.Core.Path.{◌≡◌, refl, sym, ◌∙◌}
 use Prim.Native.Nat.{ℕ, ◌+◌, ◌*◌, ◌≤◌, ◌<◌}
 use native.Mathlib.Omega.{arith}
 use lib.ListN.{length, get_or}
 use Rattle.model.specs.Book.{no_totals}
 use Rattle.model.specs.Letter.{covered}
+use Rattle.kinds.proofs.Taken.{taken}
+use Rattle.letters.specs.Covered.{covered_letter}
 use Rattle.line_limits.specs.declared.totals.Totals.{Totals}
 use Rattle.line_limits.specs.Totals.{totals_by, totals_in, total_cells, Within}
 use Rattle.line_limits.proofs.TotalLimits.{read_within, none_within, kept_back_lem, none_closed}
@@ -41,13 +43,14 @@ pub zeros_where_none_closed : (store : List ℕ) (letter : ℕ) → totals_at st
 zeros_where_none_closed store letter = zeros_by store letter (covered letter) refl
 
 -- as code reads them: three cells
-module _ (store : List ℕ) (letter : ℕ) (closed : Option ℕ) (t : Bool) (et : t ≡ covered letter) where
-  pub totals_read : t ≡ true → (at : ℕ) → at ≡ total_start letter → (totals : Totals) → totals ≡ totals_in closed (get_or store at 0 ∷ get_or store (at + 1) 0 ∷ get_or store (at + 2) 0 ∷ []) → totals ≡ totals_at store letter closed
+module _ (store : List ℕ) (letter : ℕ) (closed : Option ℕ) (o : Option ℕ) (eo : o ≡ covered_letter letter) where
+  pub totals_read : (v : ℕ) → o ≡ Some v → (at : ℕ) → at ≡ total_start v → (totals : Totals) → totals ≡ totals_in closed (get_or store at 0 ∷ get_or store (at + 1) 0 ∷ get_or store (at + 2) 0 ∷ []) → totals ≡ totals_at store letter closed
   unfolding totals_at totals_in
-  totals_read c at ea totals er =
+  totals_read v ev at ea totals er =
+      let t = taken covered letter v (sym eo ∙ ev) in
       let cell : (j : ℕ) → j < 3 → get_or (piece store (total_start letter) 3) j 0 ≡ get_or store (total_start letter + j) 0 = pieces.cell store (total_start letter) 3 in
       let first : total_start letter + 0 ≡ total_start letter = omega arith in
-      rw (er, ← et, c, cell 0 (omega arith), cell 1 (omega arith), cell 2 (omega arith), first, ← ea)
+      rw (er, t.0, cell 0 (omega arith), cell 1 (omega arith), cell 2 (omega arith), first, ← t.1, ← ea)
 
 module _ (store : List ℕ) (letter : ℕ) (closed : Option ℕ) (totals : Totals) (c : covered letter ≡ true) (n : length store ≡ size) where
   abbrev cells : List ℕ

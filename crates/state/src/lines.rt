@@ -4,7 +4,7 @@ ghost use Rattle.state.specs.Lines.{line_at, cells_of, with_line_of};
 
 use crate::cells::{line_start, write};
 use crate::store::{LINE_CELLS, Store};
-use letters::letter::is_covered;
+use letters::covered::Covered;
 use line_limits::limits::line_in;
 use line_limits::line::{Line, Patterns};
 
@@ -13,26 +13,25 @@ use line_limits::line::{Line, Patterns};
 pub fn line_of(store: &Store, letter: u8) -> Line
     ensures { result ≡ line_at store.now letter }
 {
-    if is_covered(letter) {
-        let at = line_start(letter);
-        let mut cells = [0; LINE_CELLS];
-        cells.copy_from_slice(&store[at..at + LINE_CELLS]);
-        line_in(letter, cells)
-    } else {
-        Line {
+    let Some(covered) = Covered::new(letter) else {
+        return Line {
             opening: None,
             closed: None,
             closing: 0,
             patterns: None,
-        }
-    }
+        };
+    };
+    let at = line_start(covered);
+    let mut cells = [0; LINE_CELLS];
+    cells.copy_from_slice(&store[at..at + LINE_CELLS]);
+    line_in(letter, cells)
 }
 
 // The store with a line anew: as it was, where the letter is not covered.
 pub fn keep_line(store: &mut Store, letter: u8, line: Line)
     ensures { store.new ≡ with_line_of store.old letter line }
 {
-    if is_covered(letter) {
+    if let Some(letter) = Covered::new(letter) {
         write(store, line_start(letter), &cells_of(line));
     }
 }

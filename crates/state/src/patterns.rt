@@ -4,30 +4,35 @@ ghost use Rattle.state.specs.Patterns.{factor_at, with_slot_of};
 
 use crate::cells::{slot_start, write};
 use crate::store::Store;
+use factor::pattern::Pattern;
 use kinds::factor::FactorLimits;
 use kinds::within::Limits;
-use letters::letter::is_covered;
+use letters::covered::Covered;
 
 // The place of the composite in a slot, after the ten factors.
 pub const COMPOSITE: usize = 10;
 
 // A factor of the slot of a letter and an accident year, or its composite: past 1 it is read as 1. Where there is no slot or place, 0.
+#[tactic(auto, using(crate::proofs::SlotPieces::slot_read, crate::proofs::SlotPieces::no_slot, crate::proofs::SlotPieces::past_slot))]
 pub fn factor_in(store: &Store, letter: u8, year: u64, place: usize) -> u64
     ensures { result ≡ factor_at store.now letter year place }
 {
-    if place > COMPOSITE || !is_covered(letter) {
-        return 0;
+    match Covered::new(letter) {
+        Some(letter) if place <= COMPOSITE => {
+            store[slot_start(letter, year) + place].min(FactorLimits::MOST)
+        }
+        _ => 0,
     }
-    store[slot_start(letter, year) + place].min(FactorLimits::MOST)
 }
 
 // The store with the slot of a letter and an accident year anew. A letter that is not covered has no slot.
-pub fn keep_pattern(store: &mut Store, letter: u8, year: u64, factors: [u64; 10], composite: u64)
-    ensures { store.new ≡ with_slot_of store.old letter year (factors ++ (composite ∷ [])) }
+#[tactic(auto, using(crate::proofs::SlotPieces::slot_kept))]
+pub fn keep_pattern(store: &mut Store, letter: u8, year: u64, pattern: Pattern)
+    ensures { store.new ≡ with_slot_of store.old letter year (pattern.factors ++ (pattern.composite ∷ [])) }
 {
-    if is_covered(letter) {
+    if let Some(letter) = Covered::new(letter) {
         let at = slot_start(letter, year);
-        write(store, at, &factors);
-        store[at + COMPOSITE] = composite;
+        write(store, at, &pattern.factors);
+        store[at + COMPOSITE] = pattern.composite;
     }
 }

@@ -15,7 +15,7 @@ pub fn show<W: Write>(
     write!(output, "{rate}")?;
     match Rate::new(rate) {
         Some(given) => show_pattern(output, letter, given, paid, incurred)?,
-        None => field(output, Refusal::OutsideLimits.number())?,
+        None => write!(output, " {}", Refusal::OutsideLimits.number())?,
     }
     output.write_all(b"\n")
 }
@@ -40,13 +40,9 @@ fn figures<W: Write>(
     factors: &[u64; 10],
     composite: u64,
 ) -> io::Result<()> {
-    field(output, question)?;
+    write!(output, " {question}")?;
     for factor in factors {
-        field(output, *factor)?;
+        write!(output, " {factor}")?;
     }
-    field(output, composite)
-}
-
-fn field<W: Write>(output: &mut W, n: u64) -> io::Result<()> {
-    write!(output, " {n}")
+    write!(output, " {composite}")
 }

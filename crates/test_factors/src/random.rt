@@ -2,23 +2,23 @@
 use crate::print::show;
 use std::io::{self, Write};
 
-pub fn ten_year_patterns<W: Write>(output: &mut W) -> io::Result<()> {
-    let mut state: u64 = 1987;
-    for _ in 0..100 {
-        state = ten_year_pattern(output, state)?;
+// That many patterns: the first begins with the seed, and each later one where the one before it left the generator.
+pub fn patterns<W: Write, F: Fn(&mut W, u64) -> io::Result<u64>>(
+    output: &mut W,
+    seed: u64,
+    count: u64,
+    pattern: F,
+) -> io::Result<()>
+    requires { F.IsAlwaysCallable pattern }
+{
+    let mut state = seed;
+    for _ in 0..count {
+        state = pattern(output, state)?;
     }
     Ok(())
 }
 
-pub fn two_year_patterns<W: Write>(output: &mut W) -> io::Result<()> {
-    let mut state: u64 = 2099;
-    for _ in 0..50 {
-        state = two_year_pattern(output, state)?;
-    }
-    Ok(())
-}
-
-fn ten_year_pattern<W: Write>(output: &mut W, start: u64) -> io::Result<u64> {
+pub fn ten_year_pattern<W: Write>(output: &mut W, start: u64) -> io::Result<u64> {
     let mut state = next(start);
     let rate = state % 2501;
     let mut paid = [0u64; 10];
@@ -36,7 +36,7 @@ fn ten_year_pattern<W: Write>(output: &mut W, start: u64) -> io::Result<u64> {
     Ok(state)
 }
 
-fn two_year_pattern<W: Write>(output: &mut W, start: u64) -> io::Result<u64> {
+pub fn two_year_pattern<W: Write>(output: &mut W, start: u64) -> io::Result<u64> {
     let first = next(start);
     let second = next(first);
     let third = next(second);

@@ -1,11 +1,10 @@
 -- SUM.
 -- Assumes nothing.
 use Rattle.std.specs.Prelude.{if◌then◌else◌, None, Some, is_some}
-use mathlib.Core.Bool.{Bool, true, false}
+use mathlib.Core.Bool.{Bool, true, false, not}
 use mathlib.Core.List.{List}
-use mathlib.Core.Path.{◌≡◌, refl, sym, ◌∙◌}
+use mathlib.Core.Path.{◌≡◌, refl, sym, ap, ◌∙◌}
 use Prim.Native.Nat.{ℕ}
-use lib.IntN.{ℤ}
 use Rattle.model.specs.Letter.{covered}
 use Rattle.model.specs.Call.{totals}
 use Rattle.model.specs.Question.{Sound, book_questions, first_no}
@@ -35,16 +34,16 @@ module _ (book : Book) (letter : ℕ) (store : List ℕ) (line : Line) (here : l
   first_is true e = rw (line_is store letter line here, e)
   first_is false e = rw (line_is store letter line here, e)
 
-  module _ (given : Bool) (eg : given ≡ is_some line.opening) where
-    pub undeclared : given ≡ false → r ≡ refused_of book refusal.NotDeclared → Settled book (totals letter) store r store
-    undeclared d er = refused book refusal.NotDeclared (first_no (book_questions (view book store) (totals letter))) (totals letter) store r (first_is false (sym eg ∙ d)) er
+  module _ (missing : Bool) (em : is_some line.opening ≡ not missing) where
+    pub undeclared : missing ≡ true → r ≡ refused_of book refusal.NotDeclared → Settled book (totals letter) store r store
+    undeclared m er = refused book refusal.NotDeclared (first_no (book_questions (view book store) (totals letter))) (totals letter) store r (first_is false (em ∙ ap not m)) er
 
     -- the figures, as code has them
-    pub summed : given ≡ true → (figures : Totals) → figures ≡ totals_at store letter line.closed → (p : ℤ) → p ≡ figures.paid → (v : ℤ) → v ≡ figures.losses
-        → r ≡ accepted_of book (answer.Sum letter figures.years p v) → Settled book (totals letter) store r store
+    pub summed : missing ≡ false → (figures : Totals) → figures ≡ totals_at store letter line.closed
+        → r ≡ accepted_of book (answer.Sum letter figures) → Settled book (totals letter) store r store
     unfolding accept book_settled store_settled line_of
-    summed d figures ef p ep v ev er =
-        rw (first_is true (sym eg ∙ d), er, ep, ev, ef)
+    summed m figures ef er =
+        rw (first_is true (em ∙ ap not m), er, ef)
         record {
           outcome = rw (line_is store letter line here);
           own = refl;

@@ -20,10 +20,10 @@ use state::totals::totals_of;
 pub fn totals(book: Book, store: &Store, letter: u8) -> Outcome
     ensures { Does book (as_numbers (totals letter)) store.now result store.now }
 {
-    if is_covered(letter) {
-        return ask_declared(book, store, letter);
+    if !is_covered(letter) {
+        return refuse(book, Refusal::UncoveredLetter);
     }
-    refuse(book, Refusal::UncoveredLetter)
+    ask_declared(book, store, letter)
 }
 
 // "8. PATT, YEAR: is the line declared?", and its totals: "the count of closed years, all paid, and all tax-basis losses".
@@ -32,17 +32,9 @@ fn ask_declared(book: Book, store: &Store, letter: u8) -> Outcome
     ensures { Settled book (totals letter) store.now result store.now }
 {
     let line = line_of(store, letter);
-    if line.opening.is_some() {
-        let totals = totals_of(store, letter, line.closed);
-        return accept(
-            book,
-            Answer::Sum {
-                letter,
-                years: totals.years,
-                paid: totals.paid,
-                losses: totals.losses,
-            },
-        );
+    if line.opening.is_none() {
+        return refuse(book, Refusal::NotDeclared);
     }
-    refuse(book, Refusal::NotDeclared)
+    let totals = totals_of(store, letter, line.closed);
+    accept(book, Answer::Sum { letter, totals })
 }

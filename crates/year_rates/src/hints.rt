@@ -1,6 +1,5 @@
 // The half-year factor of a year's rate, kept where the rate is given. It is a hint and no part of the book: whoever takes it asks first whether it is right.
-ghost use Rattle.std.specs.Prelude.{true, ◌≡◌, ◌<◌};
-ghost use Rattle.model.specs.Kind.{is_year};
+ghost use Rattle.std.specs.Prelude.{◌≡◌, ◌<◌};
 ghost use Rattle.state.specs.Hints.{hint_start, hint_at, with_hint_of};
 
 use crate::place::place_of;
@@ -8,8 +7,7 @@ use kinds::year::Year;
 use state::store::{HINTS_START, Store};
 
 // Where the hint of a year stands.
-fn hint_start(year: u64) -> usize
-    requires { is_year year ≡ true }
+fn hint_start(year: Year) -> usize
     ensures { (result ≡ hint_start year) × (result < 1853) }
 {
     HINTS_START + place_of(year)
@@ -19,11 +17,7 @@ fn hint_start(year: u64) -> usize
 pub fn hint_of(store: &Store, year: u64) -> u64
     ensures { result ≡ hint_at store.now year }
 {
-    if Year::contains(year) {
-        store[hint_start(year)]
-    } else {
-        0
-    }
+    Year::new(year).map_or(0, |year| store[hint_start(year)])
 }
 
 // The store with a year's hint: as it was, where the year is none from 1987 to 2099.
@@ -31,7 +25,7 @@ pub fn hint_of(store: &Store, year: u64) -> u64
 pub fn keep_hint(store: &mut Store, year: u64, hint: u64)
     ensures { store.new ≡ with_hint_of store.old year hint }
 {
-    if Year::contains(year) {
+    if let Some(year) = Year::new(year) {
         store[hint_start(year)] = hint;
     }
 }

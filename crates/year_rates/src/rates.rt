@@ -12,18 +12,15 @@ use state::book::Book;
 pub fn rate_of(book: Book, year: u64) -> Option<Rate>
     ensures { result ≡ rates_of book.rates year }
 {
-    if Year::contains(year) {
-        Rate::new(book.rates[place_of(year)] as u64)
-    } else {
-        None
-    }
+    let year = Year::new(year)?;
+    Rate::new(book.rates[place_of(year)] as u64)
 }
 
 // The book with a year's rate: as it was, where the year is none from 1987 to 2099.
 pub fn with_rate(mut book: Book, year: u64, rate: Rate) -> Book
     ensures { result ≡ with_rate_of book year rate }
 {
-    if Year::contains(year) {
+    if let Some(year) = Year::new(year) {
         book.rates[place_of(year)] = rate.number() as u16;
     }
     book

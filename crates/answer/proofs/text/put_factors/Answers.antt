@@ -1,17 +1,17 @@
 -- `put_factors`: the goals that the check leaves.
 use Rattle.std.proofs.Common.{rules}
 use Rattle.model.proofs.Ages.{ages_small}
-use Rattle.answer.proofs.Factors.{list_start, list_on, list_end}
+use Rattle.answer.proofs.Factors.{list_start, list_on}
 use Rattle.answer.proofs.text.put_factors.Goals as goal
 
 pub loop-place-init : goal.loop-place-init
-loop-place-init g c = search list_start
+loop-place-init c = search list_start
 
 pub put_factor-requires : goal.put_factor-requires
-put_factor-requires g c = search (ages_small, rules)
+put_factor-requires c = search (ages_small, rules)
 
 pub loop-place-preserved : goal.loop-place-preserved
-loop-place-preserved g c = search (list_on, rules)
+loop-place-preserved c = search (list_on, rules)
 
 pub returns-clause-short : goal.returns-clause-short
-returns-clause-short g c = search (ages_small, rules)
+returns-clause-short c = search (ages_small, rules)

@@ -3,4 +3,4 @@ use Rattle.answer.proofs.Factors.{Listing}
 use Rattle.answer.proofs.text.put_factors.Given as goal
 
 abbrev pub invariant-loop-place : goal.invariant-loop-place
-invariant-loop-place g l = Listing l.store l.letter l.year l.initial.out.items l.out.items l.place
+invariant-loop-place l = Listing l.store l.letter l.year l.initial.out.items l.out.items l.place

@@ -2,5 +2,5 @@
 use Rattle.closings.proofs.YearAsked.{no_pattern}
 use Rattle.closings.proofs.close_year.ask_patterns.Goals as goal
 
-pub returns : goal.returns
-returns c = search no_pattern
+pub returns-then-not-have_patterns : goal.returns-then-not-have_patterns
+returns-then-not-have_patterns c = search no_pattern

@@ -1,6 +1,5 @@
 -- `closings::close_year::end_year` meets its contract: the goals that the check leaves. Assumes nothing.
 use borrow.Author.Rules.{rules}
-use mir.Facts.{to_z-of_z}
 use Rattle.closings.proofs.YearClosed.{end_answered, figures_small, year_closed}
 use Rattle.closings.proofs.close_year.end_year.Goals as goal
 
@@ -10,11 +9,9 @@ unwrap-end-requires c =
 
 pub add_year-requires : goal.add_year-requires
 add_year-requires c =
-    let end = c.unwrap-end in
-    figures_small _ _ _ _ _ _ _ _ c.requires _ c.row_factors-factors.ensures _ c.opening_of-opening.ensures _ c.year_end.ensures _ end.ensures _ (search (to_z-of_z, end.type_inv)) _ (search (to_z-of_z, end.type_inv))
+    figures_small _ _ _ _ _ _ _ _ c.requires _ c.row_factors-factors.ensures _ c.opening_of-opening.ensures _ c.year_end.ensures _ c.unwrap-end.ensures
 
 pub returns : goal.returns
 returns c =
-    let end = c.unwrap-end in
-    year_closed _ _ _ _ _ _ _ _ c.requires _ c.row_factors-factors.ensures _ c.opening_of-opening.ensures _ c.year_end.ensures _ end.ensures _ (search (to_z-of_z, end.type_inv)) _ (search (to_z-of_z, end.type_inv))
+    year_closed _ _ _ _ _ _ _ _ c.requires _ c.row_factors-factors.ensures _ c.opening_of-opening.ensures _ c.year_end.ensures _ c.unwrap-end.ensures
     _ (search rules) _ c.add_year.ensures _ c.with_closing.ensures _ c.keep_line.ensures _ c.accept.ensures

@@ -1,11 +1,8 @@
 -- `journal::column::column` meets its contract: the goals that the check leaves. Assumes nothing.
-use mathlib.Core.Path.{refl, ap}
-use lib.ListN.{length}
-use Rattle.journal.proofs.Columns.{start, on}
+use borrow.Author.Rules.{rules}
+use Rattle.record.specs.Column.{size_at}
+use Rattle.journal.proofs.Columns.{each_of}
 use Rattle.journal.proofs.column.column.Goals as goal
 
-pub loop-i-init : goal.loop-i-init
-loop-i-init c = start _ _ _ _ _ c.new-list.ensures (ap length c.new-list.ensures)
-
-pub loop-i-preserved : goal.loop-i-preserved
-loop-i-preserved c = on _ _ _ _ _ _ _ _ _ c.loop-i.invariant refl c.push.ensures.items c.push.ensures.len
+pub returns : goal.returns
+returns c = each_of _ (size_at c.args.sizes.now) (λ at x gives. search rules) _ _ _ _ c.column_of.ensures

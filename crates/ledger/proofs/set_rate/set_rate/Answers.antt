@@ -2,11 +2,11 @@
 use Rattle.ledger.proofs.RateSet.{year_refused, months_refused, rate_on}
 use Rattle.ledger.proofs.set_rate.set_rate.Goals as goal
 
-pub returns-then-contains : goal.returns-then-contains
-returns-then-contains c = search rate_on
+pub returns-in-Ok : goal.returns-in-Ok
+returns-in-Ok c = search rate_on
 
-pub returns-else-contains : goal.returns-else-contains
-returns-else-contains c = search year_refused
+pub returns-in-Ok-2 : goal.returns-in-Ok-2
+returns-in-Ok-2 c = search year_refused
 
 pub returns-in-Err : goal.returns-in-Err
 returns-in-Err c = search months_refused

@@ -1,10 +1,14 @@
 -- `numbers::front::digits_to_tab` meets its contract: the goals that the check leaves. Assumes nothing.
 use native.Mathlib.Omega.{arith}
-use Rattle.numbers.proofs.Digits.{early_start, early_on}
+use mathlib.Core.Path.{sym}
+use Rattle.numbers.proofs.Digits.{early_start, front_on, front_stop}
 use Rattle.numbers.proofs.front.digits_to_tab.Goals as goal
 
-pub loop-i-init : goal.loop-i-init
-loop-i-init c = search early_start
+pub loop-length-init : goal.loop-length-init
+loop-length-init c = search early_start
 
-pub loop-i-preserved : goal.loop-i-preserved
-loop-i-preserved c = early_on _ _ _ c.loop-i.invariant (omega arith) (omega arith) _ (omega arith) c.above_zero-digit.ensures (omega arith) _ c.from.ensures
+pub returns-then-not-is_ascii_digit : goal.returns-then-not-is_ascii_digit
+returns-then-not-is_ascii_digit c = front_stop _ _ _ c.loop-length.invariant (omega arith) c.in_ok-front.ensures.cases.enough _ c.in_ok-front.ensures.cases.same (sym c.if-not-is_ascii_digit.ensures.value) _ c.then_some.ensures
+
+pub loop-length-preserved : goal.loop-length-preserved
+loop-length-preserved c = front_on _ _ _ c.loop-length.invariant (omega arith) c.in_ok-front.ensures.cases.enough _ c.in_ok-front.ensures.cases.same (sym c.if-not-is_ascii_digit.ensures.value) _ c.from.ensures

@@ -2,5 +2,5 @@
 use Rattle.numbers.proofs.Digits.{Early}
 use Rattle.numbers.proofs.front.digits_to_tab.Given as goal
 
-abbrev pub invariant-loop-i : goal.invariant-loop-i
-invariant-loop-i l = Early l.rest l.size l.i
+abbrev pub invariant-loop-length : goal.invariant-loop-length
+invariant-loop-length l = Early l.rest l.size l.length

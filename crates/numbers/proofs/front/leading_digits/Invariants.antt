@@ -2,5 +2,5 @@
 use Rattle.numbers.specs.Number.{Told}
 use Rattle.numbers.proofs.front.leading_digits.Given as goal
 
-abbrev pub invariant-loop-i : goal.invariant-loop-i
-invariant-loop-i l = Told l.rest l.size l.i
+abbrev pub invariant-loop-length : goal.invariant-loop-length
+invariant-loop-length l = Told l.rest l.size l.length

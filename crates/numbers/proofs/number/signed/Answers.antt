@@ -1,22 +1,11 @@
 -- `numbers::number::signed` meets its contract: the goals that the check leaves. Assumes nothing.
-use native.Mathlib.Omega.{arith}
-use Rattle.numbers.proofs.Signs.{sign_fits, signed_missing, signed_plus, signed_fits, signed_zero, signed_minus}
+use Rattle.numbers.proofs.Signs.{minus_signed, not_signed, not_allowed}
 use Rattle.numbers.proofs.number.signed.Goals as goal
+use Rattle.numbers.proofs.number.signed.Goals.{else-allowed-via-then-allowed+else-has_minus, else-allowed-via-else-allowed}
 
-pub returns-in_err-number : goal.returns-in_err-number
-returns-in_err-number c = signed_missing c.args.rest.now c.args.allowed _ c.sign_length-sign.ensures c.in_err-number.ensures _ c.from_residual.ensures
+pub returns-then-has_minus : goal.returns-then-has_minus
+returns-then-has_minus c = minus_signed _ _ _ c.if-allowed.true c.has_minus.ensures c.if-has_minus.true _ c.below_zero.ensures
 
-pub returns-then-sign-eq0 : goal.returns-then-sign-eq0
-returns-then-sign-eq0 c = signed_plus c.args.rest.now c.args.allowed _ c.sign_length-sign.ensures c.in_ok-number.number c.in_ok-number.ensures c.if-sign-eq0.true
-
-pub returns-then-number-eq0 : goal.returns-then-number-eq0
-returns-then-number-eq0 c =
-    signed_zero c.args.rest.now c.args.allowed _ c.sign_length-sign.ensures c.in_ok-number.number c.in_ok-number.ensures c.if-sign-eq0.false c.if-number-eq0.true
-
-pub overflow_add-result : goal.overflow_add-result
-overflow_add-result c =
-    omega (arith, signed_fits c.args.rest.now c.args.allowed _ c.sign_length-sign.ensures c.in_ok-number.number c.in_ok-number.ensures c.if-sign-eq0.false)
-
-pub returns : goal.returns
-returns c =
-    signed_minus c.args.rest.now c.args.allowed _ c.sign_length-sign.ensures c.in_ok-number.number c.in_ok-number.ensures c.if-sign-eq0.false c.if-number-eq0.false
+pub returns-else-allowed : goal.returns-else-allowed
+returns-else-allowed c =
+    elim c.else-allowed.branch [ else-allowed-via-then-allowed+else-has_minus w ↦ not_signed _ _ _ w.has_minus.ensures w.if-has_minus.false _ c.unsigned.ensures | else-allowed-via-else-allowed w ↦ not_allowed _ _ w.if-allowed.false _ c.unsigned.ensures ]

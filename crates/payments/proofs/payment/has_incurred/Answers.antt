@@ -1,17 +1,17 @@
 -- `payments::payment::has_incurred` meets its contract: the goals that the check leaves. Assumes nothing.
-use Rattle.payments.proofs.Ages.{incurred_on, stop_at_none, stop_at_above, incurred_end}
+use borrow.Author.Rules.{rules}
+use mathlib.Core.Path.{◌∙◌}
+use Prim.Native.Nat.{ℕ}
+use Rattle.std.proofs.lemmas.Iterator.{YieldsList-from_slice, YieldsList-from_zip}
+use Rattle.std.proofs.lemmas.Iterator.Search.{all_from_yields_List}
+use Rattle.model.specs.Pattern.{age}
+use Rattle.model.specs.Question.{is_incurred}
+use Rattle.payments.proofs.Ages.{have_incurred}
 use Rattle.payments.proofs.payment.has_incurred.Goals as goal
-use Rattle.payments.proofs.payment.has_incurred.Goals.{then-incurred-i-eq0-via-then-incurred-i-eq0, then-incurred-i-eq0-via-else-incurred-i-eq0+then-incurred-i}
-
-pub returns-then-incurred-i-eq0 : goal.returns-then-incurred-i-eq0
-returns-then-incurred-i-eq0 c =
-    elim c.then-incurred-i-eq0.branch [
-      | then-incurred-i-eq0-via-then-incurred-i-eq0 w ↦ stop_at_none _ _ c.loop-i.i c.requires c.loop-i.invariant c.loop-i-test.true w.if-incurred-i-eq0.true
-      | then-incurred-i-eq0-via-else-incurred-i-eq0+then-incurred-i w ↦ stop_at_above _ _ c.loop-i.i c.requires c.loop-i.invariant c.loop-i-test.true w.if-incurred-i.true
-    ]
-
-pub loop-i-preserved : goal.loop-i-preserved
-loop-i-preserved c = search incurred_on
 
 pub returns : goal.returns
-returns c = search incurred_end
+returns c =
+    all_from_yields_List (λ (p : ℕ × ℕ). is_incurred (age p.0 p.1)) c.all.new.self _ _ c.all.ensures.ran
+    (YieldsList-from_zip (YieldsList-from_slice c.args.paid.now cc) (YieldsList-from_slice c.args.incurred.now cc))
+    (λ x b q k. search rules)
+    ∙ have_incurred c.args.paid.now c.args.incurred.now

@@ -2,5 +2,5 @@
 use Rattle.payments.proofs.Judged.{letter_refused}
 use Rattle.payments.proofs.schedule.schedule_of.Goals as goal
 
-pub returns : goal.returns
-returns c = search letter_refused
+pub returns-then-not-is_covered : goal.returns-then-not-is_covered
+returns-then-not-is_covered c = search letter_refused

@@ -2,8 +2,8 @@
 use Rattle.reserve.proofs.YearEnds.{letter_covered, letter_refused}
 use Rattle.reserve.proofs.year_end.year_end.Goals as goal
 
-pub returns-then-is_covered : goal.returns-then-is_covered
-returns-then-is_covered c = search letter_covered
+pub returns-then-not-is_covered : goal.returns-then-not-is_covered
+returns-then-not-is_covered c = search letter_refused
 
 pub returns : goal.returns
-returns c = search letter_refused
+returns c = search letter_covered
