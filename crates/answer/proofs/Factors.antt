@@ -1,6 +1,6 @@
 -- The published factors of a pattern in the store: one for each age, each at its place.
 -- Assumes nothing.
-use Rattle.std.proofs.Common.{Bool, true, false, List, [], ◌∷◌, ◌++◌, map, ◌≡◌, refl, sym, ap, ◌∙◌, append_assoc, append-nil, ℕ, ◌+◌, ◌*◌, ◌<◌, ◌≤◌, arith, add-one, length, take, drop, get_or, length-drop, get_or-take, length-take-le, take-suc, take_all}
+use Rattle.std.proofs.Common.{Bool, true, false, List, ◌∷◌, ◌++◌, map, ◌≡◌, refl, ap, ◌∙◌, ℕ, ◌+◌, ◌<◌, ◌≤◌, arith, length, take, drop, get_or, length-drop, get_or-take, length-take-le}
 use lib.ListN.{length-map, length-replicate, get_or-map}
 use Rattle.model.specs.Letter.{covered, ages}
 use Rattle.model.specs.Number.{decimal}
@@ -10,12 +10,7 @@ use Rattle.state.specs.Store.{piece, size}
 use Rattle.state.specs.Patterns.{slot_start, slot_at, factor_in, factor_at, pattern_at}
 use Rattle.state.proofs.Places.{covered_place}
 use Rattle.answer.specs.Put.{tabbed}
-
--- one number more
-tabbed_more : (list : List ℕ) (n : ℕ) → tabbed (list ++ (n ∷ [])) ≡ tabbed list ++ (9 ∷ decimal n)
-unfolding tabbed
-tabbed_more [] n = rw (append-nil (decimal n))
-tabbed_more (m ∷ list) n = rw (tabbed_more list n, append_assoc (decimal m) (tabbed list))
+use Rattle.answer.proofs.Listing.{Listing, list_on, list_end}
 
 module _ (store : List ℕ) (letter year : ℕ) where
   abbrev slot : List ℕ
@@ -41,23 +36,11 @@ module _ (store : List ℕ) (letter year : ℕ) where
       get_or-map published (pattern_at store letter year).factors i 0
       ∙ ap published (get_or-map factor_in (take (ages letter) slot) i 0 ∙ ap factor_in (get_or-take (ages letter) slot i 0 lt))
 
-  -- the factors of the ages before place i are put
-  pub record Listing (first out : List ℕ) (i : ℕ) : Type 0 where
-    pub put : out ≡ first ++ tabbed (take i factors)
-    pub short : length out ≤ length first + 21 * i
+  -- the factor of one age more is put
+  pub factors_on : (first out : List ℕ) (i : ℕ) → Listing factors first out i → length store ≡ size → i < ages letter → (later : List ℕ) → later ≡ out ++ (9 ∷ decimal (published (factor_at store letter year i)))
+      → length later ≤ length out + 21 → Listing factors first later (i + 1)
+  factors_on first out i l n lt = list_on factors first out i l (omega (arith, factor_count n)) (published (factor_at store letter year i)) (factor_is i lt)
 
-  pub list_start : (first : List ℕ) → Listing first first 0
-  unfolding tabbed
-  list_start first = record { put = sym (append-nil first); short = omega arith }
-
-  pub list_on : (first out : List ℕ) (i : ℕ) → Listing first out i → length store ≡ size → i < ages letter → (later : List ℕ) → later ≡ out ++ (9 ∷ decimal (published (factor_at store letter year i)))
-      → length later ≤ length out + 21 → Listing first later (i + 1)
-  list_on first out i l n lt later p few =
-      let number : ℕ = published (factor_at store letter year i) in
-      record {
-        put = p ∙ rw (l.put, add-one i, take-suc factors i 0 (omega (arith, factor_count n)), factor_is i lt, tabbed_more (take i factors) number) (append_assoc first (tabbed (take i factors)) (9 ∷ decimal number));
-        short = omega (arith, l.short, few);
-      }
-
-  pub list_end : (first out : List ℕ) (i : ℕ) → Listing first out i → length store ≡ size → ages letter ≤ i → out ≡ first ++ tabbed factors
-  list_end first out i l n le = rw (take_all i factors (omega (arith, factor_count n))) at l.put
+  -- those of all ages are put
+  pub factors_end : (first out : List ℕ) (i : ℕ) → Listing factors first out i → length store ≡ size → ages letter ≤ i → out ≡ first ++ tabbed factors
+  factors_end first out i l n le = list_end factors first out i l (omega (arith, factor_count n))

@@ -1,3 +1,4 @@
 pub mod Factors
 pub mod Joins
+pub mod Listing
 pub mod Texts

@@ -1,7 +1,7 @@
 // Document 01, "A run of the book's program": the text of each answer, and of DONE, put into a lent buffer.
 #![tactic(auto, using(crate::proofs::Texts::joined, crate::proofs::Texts::decimal_is, crate::proofs::Texts::signed_is, crate::proofs::Texts::fact_line, crate::proofs::Texts::put_where_room), unfolding(model::specs::Answer::text, model::specs::Answer::done_text))]
 
-ghost use Rattle.std.specs.Prelude.{[], ◌∷◌, ◌++◌, map, ◌≡◌, ◌+◌, ◌≤◌, length};
+ghost use Rattle.std.specs.Prelude.{◌∷◌, ◌++◌, map, ◌≡◌, ◌+◌, ◌*◌, ◌≤◌, length};
 ghost use Rattle.model.specs.Answer.{declared, rated, tax, summed, registered, refusal, line_of_text, text, done_text};
 ghost use Rattle.model.specs.Number.{decimal};
 ghost use Rattle.model.specs.Published.{published};
@@ -54,7 +54,7 @@ pub fn put_answer(out: &mut [u8], at: usize, answer: Answer, store: &Store) -> u
 pub fn put_done(out: &mut [u8], at: usize, accepted: u64, refused: u64) -> usize
     ensures { PutsWithRoom out.old at (done_text accepted refused) out.new result }
 {
-    put_text(out, at, &numbers(b"DONE", accepted, refused))
+    put_text(out, at, &numbers(b"DONE", &[accepted, refused]))
 }
 
 // Is there room for the longest text?
@@ -76,14 +76,16 @@ fn put_text<const N: usize>(out: &mut [u8], at: usize, text: &ArrayVec<u8, N>) -
     next
 }
 
-// A line of a word and two numbers.
-fn numbers(word: &[u8; 4], first: u64, second: u64) -> Short
-    ensures { result.items ≡ line_of_text (word.now ∷ decimal first ∷ decimal second ∷ []) }
+// A line of a word and numbers.
+fn numbers(word: &[u8], list: &[u64]) -> Short
+    requires { length word.now + 21 * length list.now + 1 ≤ 128 }
+    ensures { result.items ≡ line_of_text (word.now ∷ map decimal list.now) }
 {
     let mut text = Short::new();
     put(&mut text, word);
-    put_number(&mut text, first);
-    put_number(&mut text, second);
+    for &number in list {
+        put_number(&mut text, number);
+    }
     text.push(b'\n');
     text
 }
@@ -114,7 +116,7 @@ fn declared(letter: u8, opening: u64) -> Short
 fn rated(year: u64, rate: u64) -> Short
     ensures { result.items ≡ text (rated year rate) }
 {
-    numbers(b"RATE", year, rate)
+    numbers(b"RATE", &[year, rate])
 }
 
 // "A PATT prints FACT: letter, year, published factors of ages 1 to 10 (1 and 2), published composite."
@@ -176,22 +178,12 @@ fn summed(letter: u8, totals: Totals) -> Short
 fn registered(year: u64, month: u64, rate: u64) -> Short
     ensures { result.items ≡ text (registered year month rate) }
 {
-    let mut text = Short::new();
-    put(&mut text, b"MIDT");
-    put_number(&mut text, year);
-    put_number(&mut text, month);
-    put_number(&mut text, rate);
-    text.push(b'\n');
-    text
+    numbers(b"MIDT", &[year, month, rate])
 }
 
 // "NO: the refusal's number."
 fn refusal(question: u64) -> Short
     ensures { result.items ≡ text (refusal question) }
 {
-    let mut text = Short::new();
-    put(&mut text, b"NO");
-    put_number(&mut text, question);
-    text.push(b'\n');
-    text
+    numbers(b"NO", &[question])
 }

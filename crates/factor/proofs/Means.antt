@@ -1,11 +1,12 @@
 -- The loop over the composite's ages, from the last one back.
 -- Assumes nothing.
 use mathlib.Core.Path.{◌≡◌, refl, ap, ◌∙◌, sym}
+use mathlib.Core.Bool.{true}
 use mathlib.Core.List.{List, [], ◌∷◌}
 use Prim.Native.Nat.{ℕ, suc, ◌+◌, ◌-◌, ◌*◌, ◌/◌, ◌≤◌}
 use native.Mathlib.Omega.{arith}
 use native.Mathlib.Nat.{mul-le-mul}
-use borrow.Author.Tests.{eq-eqb, ne_eqb}
+use borrow.Author.Tests.{eq-eqb, ne_eqb, leb-true}
 use lib.ListN.{length, drop, get_or, drop_of_length-le}
 use Rattle.model.specs.Pattern.{unpaid}
 use Rattle.model.specs.Factor.{factor}
@@ -13,6 +14,7 @@ use Rattle.model.specs.Composite.{weight, weighted, mean}
 use Rattle.model.proofs.Lists.{drop_next, sum_drop}
 use Rattle.model.proofs.FactorBounds.{factor_at_most}
 use Rattle.model.proofs.Ages.{at_age}
+use Rattle.kinds.specs.Factor.{is_factor}
 use Rattle.factor.specs.Composite.{Averaged}
 
 -- the ages from place `at` on are added up
@@ -24,12 +26,13 @@ pub record Averaging (pay : List ℕ) (half rate left total products at : ℕ) :
   pub products_are : products ≡ weighted half (10000 + rate) (16 - at) (drop at pay)
   pub total_small : total ≤ (16 - at) * 200000000
   pub products_small : products ≤ (16 - at) * 2000000000000000000
+  pub small_half : half ≤ 10000000000
 
-pub start : (pay : List ℕ) (half rate : ℕ) → length pay ≡ 16 → Averaging pay half rate 0 0 0 16
+pub start : (pay : List ℕ) (half rate : ℕ) → length pay ≡ 16 → is_factor half ≡ true → Averaging pay half rate 0 0 0 16
 unfolding weighted
-start pay half rate n =
+start pay half rate n h =
     let e : drop 16 pay ≡ [] = drop_of_length-le pay {i = 16} (omega arith) in
-    record { low = omega arith; high = omega arith; left_is = rw e; total_is = refl; products_are = refl; total_small = omega arith; products_small = omega arith }
+    record { low = omega arith; high = omega arith; left_is = rw e; total_is = refl; products_are = refl; total_small = omega arith; products_small = omega arith; small_half = leb-true half 10000000000 h }
 
 -- one age further back, at place k
 module _ (pay fs : List ℕ) (half rate : ℕ) (g : Averaged pay fs half rate) (left total products at k : ℕ) (a : Averaging pay half rate left total products at) (e : at ≡ k + 1) (lt : 11 ≤ k) where
@@ -52,7 +55,7 @@ module _ (pay fs : List ℕ) (half rate : ℕ) (g : Averaged pay fs half rate) (
 
   pub product_small : (left + payment) * age_factor ≤ 2000000000000000000
   product_small =
-      let b : age_factor ≤ 10000000000 = omega (arith, factor_is, factor_at_most half (10000 + rate) (omega arith) (drop k pay), g.small_half) in
+      let b : age_factor ≤ 10000000000 = omega (arith, factor_is, factor_at_most half (10000 + rate) (omega arith) (drop k pay), a.small_half) in
       omega (arith, mul-le-mul left_small b)
 
   count : 16 - k ≡ suc (16 - at)
@@ -81,6 +84,7 @@ module _ (pay fs : List ℕ) (half rate : ℕ) (g : Averaged pay fs half rate) (
         products_are = products_next;
         total_small = omega (arith, a.total_small, a.high, left_small);
         products_small = omega (arith, a.products_small, a.high, product_small);
+        small_half = a.small_half;
       }
 
 -- the mean, once age 11 is reached

@@ -10,11 +10,9 @@ pub record Averaged (pay fs : List ℕ) (half rate : ℕ) : Type 0 where
   pub count : length pay ≡ 16
   pub whole : unpaid pay ≤ 200000000
   pub are : fs ≡ factors half (10000 + rate) pay
-  pub small_half : half ≤ 10000000000
 
 -- the payments at a line's ages, in their places, and the factors of these ages, which stand first
 pub record Composed (letter : ℕ) (pay fs : List ℕ) (half rate : ℕ) : Type 0 where
   pub count : length pay ≡ 16
   pub whole : unpaid pay ≤ 200000000
   pub are : fs ≡ factors half (10000 + rate) (take (all_ages letter) pay) ++ replicate (16 - all_ages letter) 0
-  pub small_half : half ≤ 10000000000

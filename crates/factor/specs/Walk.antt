@@ -5,19 +5,15 @@ use Rattle.model.specs.Pattern.{unpaid}
 use Rattle.model.specs.Factor.{factor, factors}
 
 -- what one age is worked back from: the payment at the next age, what is unpaid after it, the next age's factor
-pub record Weighable (payment later next half rate : ℕ) : Type 0 where
+pub record Weighable (payment later next half : ℕ) : Type 0 where
   pub part : payment + later ≤ 200000000
   pub small_next : next ≤ half
-  pub small_half : half ≤ 10000000000
-  pub small_rate : rate ≤ 2500
 
 -- what the walk asks at place `at` of the payments
-pub record Walkable (pay : List ℕ) (at half rate : ℕ) (out : List ℕ) : Type 0 where
+pub record Walkable (pay : List ℕ) (at : ℕ) (out : List ℕ) : Type 0 where
   pub inside : at ≤ length pay
   pub same : length out ≡ length pay
   pub part : unpaid (drop at pay) ≤ 200000000
-  pub small_half : half ≤ 10000000000
-  pub small_rate : rate ≤ 2500
 
 -- what it gives: the unpaid and the factor of the age before that place, and in `out` the factor of every age from there on
 pub record Walked (pay : List ℕ) (at half rate : ℕ) (before after : List ℕ) (u f : ℕ) : Type 0 where

@@ -7,6 +7,7 @@ ghost use Rattle.factor.specs.Pattern.{pattern_of, kept_of};
 use crate::composite::composite;
 use crate::walk::walk;
 use half_year::half_year_with_hint;
+use kinds::factor::Factor;
 use kinds::rate::Rate;
 use letters::letter;
 use payments::schedule::{all_ages, schedule_of};
@@ -31,22 +32,21 @@ pub fn discount(
     ensures { result ≡ pattern_of letter rate paid.now incurred.now }
 {
     let pay = schedule_of(letter, paid, incurred)?;
-    Ok(keep(letter, rate, hint, pay))
+    Ok(from_payments(letter, rate, hint, pay))
 }
 
 // The pattern of the payments at all ages: the walk over them, and the composite of its factors.
-fn keep(letter: u8, rate: Rate, hint: u64, pay: [u64; 16]) -> Pattern
+fn from_payments(letter: u8, rate: Rate, hint: u64, pay: [u64; 16]) -> Pattern
     requires { unpaid pay ≤ 200000000 }
     ensures { result ≡ kept_of letter rate (take (all_ages letter) pay) }
 {
-    let half = half_year_with_hint(rate, hint);
-    let number = rate.number();
+    let half = Factor::new(half_year_with_hint(rate, hint)).unwrap();
     let count = all_ages(letter);
     let mut factors = [0u64; 16];
-    walk(&pay[..count], 0, half, number, &mut factors[..count]);
+    walk(&pay[..count], 0, half, rate, &mut factors[..count]);
     Pattern {
         factors: first(factors, letter::ages(letter)),
-        composite: composite(letter, &pay, &factors, half, number),
+        composite: composite(letter, &pay, &factors, half, rate),
     }
 }
 

@@ -1,14 +1,17 @@
 -- From a question's answer to what a call promises: refusals, and a call that goes on to questions 7 to 13.
 -- Assumes nothing.
-use Rattle.std.specs.Prelude.{Option, Some}
+use Rattle.std.specs.Prelude.{Option, None, Some}
 use mathlib.Core.Bool.{Bool, true, false}
 use mathlib.Core.List.{List}
 use mathlib.Core.Path.{◌≡◌, refl, sym, ◌∙◌}
 use Prim.Native.Nat.{ℕ}
 use Rattle.model.specs.Book as model
 use Rattle.model.specs.Call.{Call}
+use Rattle.model.specs.Letter.{covered}
 use Rattle.model.specs.Question.{Sound, has_letter, has_lengths, is_within_limits, call_questions, book_questions, first_no}
 use Rattle.model.specs.Step.{Request, as_numbers, asked, questions, refuse, step}
+use Rattle.kinds.proofs.Taken.{taken, outside}
+use Rattle.letters.specs.Covered.{covered_letter}
 use Rattle.state.specs.declared.book.Book.{Book}
 use Rattle.refusal.specs.declared.Refusal.{Refusal}
 use Rattle.refusal.specs.declared.Refusal.TheVariants.{UncoveredLetter, WrongCount, OutsideLimits}
@@ -45,6 +48,14 @@ module _ (book : model.Book) (call : Call) where
   pub sound_on : Sound call → first_no (questions book (as_numbers call)) ≡ first_no (book_questions book call)
   unfolding questions call_questions
   sound_on s = rw (s.letter, s.lengths, s.limits)
+
+-- a field as a covered letter
+module _ (letter : ℕ) (l : Option ℕ) (el : l ≡ covered_letter letter) where
+  pub letter_none : l ≡ None → covered letter ≡ false
+  letter_none e = outside covered letter (sym el ∙ e)
+
+  pub letter_taken : (k : ℕ) → l ≡ Some k → (covered letter ≡ true) × (k ≡ letter)
+  letter_taken k ek = taken covered letter k (sym el ∙ ek)
 
 module _ (book : Book) (call : Call) (store : List ℕ) (r : Outcome) where
   module _ (lettered : Bool) (el : lettered ≡ has_letter call) where

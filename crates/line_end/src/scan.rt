@@ -26,19 +26,13 @@ fn skip_blocks(input: &[u8], start: usize) -> usize
     requires { start ≤ length input.now }
     ensures { EndsIn input.now start result }
 {
-    let mut at = start;
-    while BLOCK <= input.len() - at {
-        let end = at + BLOCK;
-        if has_end(&input[at..end]) {
-            return at;
-        }
-        at = end;
-    }
-    at
+    let (blocks, _) = input[start..].as_chunks::<BLOCK>();
+    let passed = blocks.iter().take_while(|block| !has_end(*block)).count();
+    start + BLOCK * passed
 }
 
 // Does a byte of a block end a line? All of them are looked at: `any` would stop at the first, with a branch at each.
-fn has_end(block: &[u8]) -> bool
+fn has_end(block: &[u8; BLOCK]) -> bool
     ensures { result ≡ among 10 block.now }
 {
     block

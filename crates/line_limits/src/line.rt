@@ -1,5 +1,5 @@
 // A line of the book.
-#[derive(Clone, Copy)]
+#[derive(Clone, Copy, Default)]
 pub struct Line {
     // What it opens with: none where the line is not declared.
     pub opening: Option<u64>,
@@ -11,7 +11,7 @@ pub struct Line {
     pub patterns: Option<Patterns>,
 }
 
-// At least one pattern: of the accident year `last` and the years before it, as many as `count`.
+// As many patterns as `count`: of the accident year `last` and the years before it.
 #[derive(Clone, Copy)]
 pub struct Patterns {
     pub last: u64,

@@ -6,7 +6,7 @@ use kinds::within::Limits;
 use kinds::year::{Year, YearLimits};
 
 // "a line's figures since its first closing": the count of closed years, all paid and all tax-basis losses.
-#[derive(Clone, Copy)]
+#[derive(Clone, Copy, Default)]
 pub struct Totals {
     pub years: u64,
     pub paid: i64,

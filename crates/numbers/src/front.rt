@@ -40,7 +40,7 @@ pub fn leading_digits(rest: &[u8]) -> Digits
     }
 }
 
-// The same, if a tab ends them within the first twelve bytes. It is not asked at each byte whether the line goes on.
+// The same, if twelve bytes are left and a tab among these ends the digits. It is not asked at each byte whether the line goes on.
 pub fn digits_to_tab(rest: &[u8]) -> Option<Digits>
     ensures { result ≡ digits_to_tab rest.now }
 {

@@ -1,11 +1,11 @@
 -- A line of two parts, cut to the bytes that are kept.
 -- Assumes nothing.
-use mathlib.Core.List.{List, [], ◌∷◌, ◌++◌, append_assoc}
+use mathlib.Core.List.{List, [], ◌∷◌, ◌++◌, append_assoc, append-nil}
 use mathlib.Core.Path.{◌≡◌, refl, sym, ap, ◌∙◌}
 use Prim.Native.Nat.{ℕ, zero, suc, ◌+◌, ◌-◌, ◌≤◌}
 use native.Mathlib.Omega.{arith}
-use lib.ListN.{length, take, drop, replicate, length-append, length-replicate}
-use lib.Seq.{take_at, drop_at, drop-drop, length-take-le}
+use lib.ListN.{length, take, drop, replicate, length-append, length-replicate, drop_of_length-le}
+use lib.Seq.{take_at, drop_at, take_all, length-take-le}
 use Rattle.pieces.specs.declared.line.OpenLine.{OpenLine}
 use Rattle.pieces.specs.Progress.{kept_bytes}
 use Rattle.pieces.specs.Feed.{bytes_of, open_line}
@@ -25,7 +25,7 @@ drop_same z zero m = let e : m - 0 ≡ m = omega arith in rw e
 drop_same z (suc n) zero = let e : 0 - suc n ≡ 0 = omega arith in rw e
 drop_same z (suc n) (suc m) = let e : suc m - suc n ≡ m - n = omega arith in rw e (drop_same z n m)
 
--- two parts are put into so many zeros, for any number of them
+-- two parts are put into so many zeros, for any number of them: the second into the slice after the first
 module _ (n : ℕ) where
   abbrev zeros : List ℕ
   zeros = replicate n 0
@@ -33,32 +33,28 @@ module _ (n : ℕ) where
   abbrev filled : List ℕ → OpenLine
   filled line = record { bytes = line ++ replicate (n - length line) 0; count = length line }
 
-  parts_in : (begun more middle : List ℕ) (first : ℕ) → first ≡ 0 + length (take (length zeros - 0) begun) → middle ≡ take 0 zeros ++ (take (length zeros - 0) begun ++ drop first zeros) → length middle ≡ n
-      → (bytes : List ℕ) (count : ℕ) → count ≡ first + length (take (length middle - first) more) → bytes ≡ take first middle ++ (take (length middle - first) more ++ drop count middle)
-      → record { bytes = bytes; count = count } ≡ filled (take n (begun ++ more))
-  parts_in begun more middle first ef em same bytes count ec eb =
-      let whole : length zeros - 0 ≡ n = omega (arith, length-replicate {A = ℕ} n 0) in
-      let start : List ℕ = take (length zeros - 0) begun in
-      let rest : List ℕ = take (length middle - first) more in
-      let left : length middle - first ≡ n - length (take n begun) = omega (arith, ef, same, ap (λ (k : ℕ). length (take k begun)) whole) in
-      let parts : start ++ rest ≡ take n (begun ++ more) = rw (whole, left) (sym (take_parts n begun more)) in
-      let here : length start ≡ first = omega (arith, ef) in
-      let counted : count ≡ length (start ++ rest) = omega (arith, ec, ef, length-append start rest) in
-      let front : take first middle ≡ start = ap (take first) em ∙ take_at start (drop first zeros) first here in
-      let back : drop count middle ≡ replicate (n - count) 0 =
-      ap (λ (k : ℕ). drop k middle) ec
-      ∙ sym (drop-drop (length rest) first middle)
-      ∙ ap (drop (length rest)) (ap (drop first) em ∙ drop_at start (drop first zeros) first here)
-      ∙ drop-drop (length rest) first zeros
-      ∙ ap (λ (k : ℕ). drop k zeros) (sym ec)
-      ∙ drop_same 0 count n in
-      let text : bytes ≡ (start ++ rest) ++ replicate (n - length (start ++ rest)) 0 = eb ∙ rw (front, back, counted) (sym (append_assoc start rest (replicate (n - length (start ++ rest)) 0))) in
-      rw (text, counted, parts)
+  parts_in : (begun more middle : List ℕ) (first : ℕ) → first ≡ length (take n begun) → middle ≡ take n begun ++ drop first zeros
+      → (slice later : List ℕ) (second : ℕ) → slice ≡ take (n - first) (drop first middle) → second ≡ length (take (length slice) more) → later ≡ take (length slice) more ++ drop second slice
+      → record { bytes = take first middle ++ (later ++ drop (n - first) (drop first middle)); count = first + second } ≡ filled (take n (begun ++ more))
+  parts_in begun more middle first ef em slice later second el es eb =
+      let start : List ℕ = take n begun in
+      let rest : List ℕ = take (n - first) more in
+      let front : take first middle ≡ start = ap (take first) em ∙ take_at start (drop first zeros) first (sym ef) in
+      let room : List ℕ = replicate (n - first) 0 in
+      let size : length room ≡ n - first = length-replicate {A = ℕ} (n - first) 0 in
+      let back : drop first middle ≡ room = ap (drop first) em ∙ drop_at start (drop first zeros) first (sym ef) ∙ drop_same 0 first n in
+      let lent : slice ≡ room = el ∙ ap (take (n - first)) back ∙ take_all (n - first) room (omega (arith, size)) in
+      let end : drop (n - first) (drop first middle) ≡ [] = ap (drop (n - first)) back ∙ drop_of_length-le room (omega (arith, size)) in
+      let zeros_left : drop second slice ≡ replicate (n - (first + second)) 0 = ap (drop second) lent ∙ drop_same 0 second (n - first) ∙ ap (λ (k : ℕ). replicate k 0) (omega arith) in
+      let fits : take (length slice) more ≡ rest = ap (λ (l : List ℕ). take (length l) more) lent ∙ ap (λ (k : ℕ). take k more) size in
+      let put : later ≡ rest ++ replicate (n - (first + second)) 0 = eb ∙ rw (fits, zeros_left) in
+      let parts : start ++ rest ≡ take n (begun ++ more) = ap (λ (k : ℕ). start ++ take (n - k) more) ef ∙ sym (take_parts n begun more) in
+      let counted : first + second ≡ length (start ++ rest) = omega (arith, ef, es, ap length fits, length-append start rest) in
+      rw (front, put, end, append-nil (rest ++ replicate (n - (first + second)) 0), ← (append_assoc start rest (replicate (n - (first + second)) 0)), counted, parts)
 
-pub two_parts : (begun more middle : List ℕ) (first : ℕ) → first ≡ 0 + length (take (length (zeros kept_bytes) - 0) begun)
-    → middle ≡ take 0 (zeros kept_bytes) ++ (take (length (zeros kept_bytes) - 0) begun ++ drop first (zeros kept_bytes)) → length middle ≡ kept_bytes
-    → (bytes : List ℕ) (count : ℕ) → count ≡ first + length (take (length middle - first) more) → bytes ≡ take first middle ++ (take (length middle - first) more ++ drop count middle)
-    → record { bytes = bytes; count = count } ≡ open_line (take kept_bytes (begun ++ more))
+pub two_parts : (begun more middle : List ℕ) (first : ℕ) → first ≡ length (take kept_bytes begun) → middle ≡ take kept_bytes begun ++ drop first (zeros kept_bytes)
+    → (slice later : List ℕ) (second : ℕ) → slice ≡ take (kept_bytes - first) (drop first middle) → second ≡ length (take (length slice) more) → later ≡ take (length slice) more ++ drop second slice
+    → record { bytes = take first middle ++ (later ++ drop (kept_bytes - first) (drop first middle)); count = first + second } ≡ open_line (take kept_bytes (begun ++ more))
 two_parts = parts_in kept_bytes
 
 -- the bytes of an open line are the line so far

@@ -1,5 +1,5 @@
 // The line so far, where a piece of the input ends within a line.
-ghost use Rattle.std.specs.Prelude.{◌++◌, ◌≡◌, ◌+◌, ◌-◌, ◌≤◌, [], length, take, drop};
+ghost use Rattle.std.specs.Prelude.{◌++◌, ◌≡◌, [], length, take, drop};
 ghost use Rattle.pieces.specs.Progress.{kept_bytes};
 
 use record::read::LONGEST;
@@ -32,8 +32,8 @@ impl OpenLine {
         ensures { result ≡ open_line (take kept_bytes (begun.now ++ more.now)) }
     {
         let mut bytes = [0; KEPT];
-        let first = put_some(&mut bytes, 0, begun);
-        let count = put_some(&mut bytes, first, more);
+        let first = put_some(&mut bytes, begun);
+        let count = first + put_some(&mut bytes[first..], more);
         OpenLine { bytes, count }
     }
 
@@ -45,14 +45,12 @@ impl OpenLine {
     }
 }
 
-// As much of a text as has room from a place on; the place after it is answered.
-fn put_some(to: &mut [u8], at: usize, text: &[u8]) -> usize
-    requires { at ≤ length to.old }
-    ensures next { result ≡ at + length (take (length to.old - at) text.now) }
-    ensures after { to.new ≡ take at to.old ++ (take (length to.old - at) text.now ++ drop result to.old) }
+// As much of a text as has room, at the front: how many bytes that is.
+fn put_some(to: &mut [u8], text: &[u8]) -> usize
+    ensures count { result ≡ length (take (length to.old) text.now) }
+    ensures after { to.new ≡ take (length to.old) text.now ++ drop result to.old }
 {
-    let count = text.len().min(to.len() - at);
-    let next = at + count;
-    to[at..next].copy_from_slice(&text[..count]);
-    next
+    let count = text.len().min(to.len());
+    to[..count].copy_from_slice(&text[..count]);
+    count
 }

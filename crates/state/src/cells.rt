@@ -15,9 +15,9 @@ fn place_of(letter: Covered) -> usize
 {
     let letter = letter.letter();
     if letter <= b'L' {
-        (letter - b'A') as usize
+        usize::from(letter - b'A')
     } else {
-        (letter - b'F') as usize
+        usize::from(letter - b'F')
     }
 }
 

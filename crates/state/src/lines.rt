@@ -14,12 +14,7 @@ pub fn line_of(store: &Store, letter: u8) -> Line
     ensures { result ≡ line_at store.now letter }
 {
     let Some(covered) = Covered::new(letter) else {
-        return Line {
-            opening: None,
-            closed: None,
-            closing: 0,
-            patterns: None,
-        };
+        return Line::default();
     };
     let at = line_start(covered);
     let mut cells = [0; LINE_CELLS];
@@ -42,7 +37,7 @@ fn cells_of(line: Line) -> [u64; LINE_CELLS]
 {
     let patterns = line.patterns.unwrap_or(Patterns { last: 0, count: 0 });
     [
-        line.opening.is_some() as u64,
+        u64::from(line.opening.is_some()),
         line.opening.unwrap_or(0),
         line.closed.unwrap_or(0),
         line.closing,

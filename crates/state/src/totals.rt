@@ -13,11 +13,7 @@ pub fn totals_of(store: &Store, letter: u8, closed: Option<u64>) -> Totals
     ensures { result ≡ totals_at store.now letter closed }
 {
     let Some(letter) = Covered::new(letter) else {
-        return Totals {
-            years: 0,
-            paid: 0,
-            losses: 0,
-        };
+        return Totals::default();
     };
     let at = total_start(letter);
     totals_in(closed, [store[at], store[at + 1], store[at + 2]])

@@ -1,14 +1,14 @@
 -- SUM.
 -- Assumes nothing.
-use Rattle.std.specs.Prelude.{if◌then◌else◌, None, Some, is_some}
+use Rattle.std.specs.Prelude.{if◌then◌else◌, Option, None, Some, is_some}
 use mathlib.Core.Bool.{Bool, true, false, not}
 use mathlib.Core.List.{List}
 use mathlib.Core.Path.{◌≡◌, refl, sym, ap, ◌∙◌}
 use Prim.Native.Nat.{ℕ}
-use Rattle.model.specs.Letter.{covered}
 use Rattle.model.specs.Call.{totals}
-use Rattle.model.specs.Question.{Sound, book_questions, first_no}
-use Rattle.model.specs.Step.{accept}
+use Rattle.model.specs.Question.{book_questions, first_no}
+use Rattle.model.specs.Step.{as_numbers, accept}
+use Rattle.letters.specs.Covered.{covered_letter}
 use Rattle.line_limits.specs.declared.line.Line.{Line}
 use Rattle.line_limits.specs.declared.totals.Totals.{Totals}
 use Rattle.refusal.specs.declared.Refusal.TheVariants as refusal
@@ -20,15 +20,24 @@ use Rattle.state.proofs.Views.{line_is}
 use Rattle.ledger.specs.declared.answer.Answer.TheVariants as answer
 use Rattle.ledger.specs.declared.answer.Outcome.{Outcome}
 use Rattle.ledger.specs.Answer.{refused_of, accepted_of}
-use Rattle.ledger.specs.Does.{book_settled, store_settled, Settled}
-use Rattle.ledger.proofs.Settling.{refused}
+use Rattle.ledger.specs.Does.{book_settled, store_settled, Settled, Does}
+use Rattle.ledger.proofs.Settling.{refused, letter_none, letter_taken, letter_refused, goes_on}
 
 -- question 3
-pub letter_sound : (letter : ℕ) (lettered : Bool) → lettered ≡ covered letter → lettered ≡ true → Sound (totals letter)
-letter_sound letter lettered el l = record { letter = sym el ∙ l; lengths = refl; limits = refl }
+module _ (letter : ℕ) (l : Option ℕ) (el : l ≡ covered_letter letter) (book : Book) (store : List ℕ) (r : Outcome) where
+  pub uncovered : l ≡ None → r ≡ refused_of book refusal.UncoveredLetter → Does book (as_numbers (totals letter)) store r store
+  uncovered e er = letter_refused book (totals letter) store r false (sym (letter_none letter l el e)) refl er
 
--- question 8
-module _ (book : Book) (letter : ℕ) (store : List ℕ) (line : Line) (here : line ≡ line_at store letter) (r : Outcome) where
+  pub letter_on : (k : ℕ) → l ≡ Some k → Settled book (totals k) store r store → Does book (as_numbers (totals letter)) store r store
+  letter_on k ek h =
+      let t = letter_taken letter l el k ek in
+      goes_on book (totals letter) store r (record { letter = t.0; lengths = refl; limits = refl }) store (rw t.1 at h)
+
+-- question 8: k is the letter
+module _ (book : Book) (letter : ℕ) (store : List ℕ) (k : ℕ) (ek : k ≡ letter) (line : Line) (ei : line ≡ line_at store k) (r : Outcome) where
+  here : line ≡ line_at store letter
+  here = rw (← ek) ei
+
   first_is : (t : Bool) → is_some line.opening ≡ t → first_no (book_questions (view book store) (totals letter)) ≡ (if t then None else Some 8)
   unfolding book_questions line_of
   first_is true e = rw (line_is store letter line here, e)
@@ -39,11 +48,11 @@ module _ (book : Book) (letter : ℕ) (store : List ℕ) (line : Line) (here : l
     undeclared m er = refused book refusal.NotDeclared (first_no (book_questions (view book store) (totals letter))) (totals letter) store r (first_is false (em ∙ ap not m)) er
 
     -- the figures, as code has them
-    pub summed : missing ≡ false → (figures : Totals) → figures ≡ totals_at store letter line.closed
-        → r ≡ accepted_of book (answer.Sum letter figures) → Settled book (totals letter) store r store
+    pub summed : missing ≡ false → (figures : Totals) → figures ≡ totals_at store k line.closed
+        → r ≡ accepted_of book (answer.Sum k figures) → Settled book (totals letter) store r store
     unfolding accept book_settled store_settled line_of
     summed m figures ef er =
-        rw (first_is true (em ∙ ap not m), er, ef)
+        rw (first_is true (em ∙ ap not m), er, ef, ek)
         record {
           outcome = rw (line_is store letter line here);
           own = refl;

@@ -2,14 +2,13 @@
 #![tactic(auto)]
 
 ghost use Rattle.model.specs.Call.{totals};
-ghost use Rattle.model.specs.Question.{Sound};
 ghost use Rattle.model.specs.Step.{as_numbers};
 ghost use Rattle.ledger.specs.Does.{Settled, Does};
 
 use ledger::accept::accept;
 use ledger::answer::{Answer, Outcome};
 use ledger::refuse::refuse;
-use letters::letter::is_covered;
+use letters::covered::Covered;
 use refusal::Refusal;
 use state::book::Book;
 use state::lines::line_of;
@@ -20,17 +19,17 @@ use state::totals::totals_of;
 pub fn totals(book: Book, store: &Store, letter: u8) -> Outcome
     ensures { Does book (as_numbers (totals letter)) store.now result store.now }
 {
-    if !is_covered(letter) {
-        return refuse(book, Refusal::UncoveredLetter);
+    match Covered::new(letter) {
+        Some(letter) => ask_declared(book, store, letter),
+        None => refuse(book, Refusal::UncoveredLetter),
     }
-    ask_declared(book, store, letter)
 }
 
 // "8. PATT, YEAR: is the line declared?", and its totals: "the count of closed years, all paid, and all tax-basis losses".
-fn ask_declared(book: Book, store: &Store, letter: u8) -> Outcome
-    requires { Sound (totals letter) }
+fn ask_declared(book: Book, store: &Store, letter: Covered) -> Outcome
     ensures { Settled book (totals letter) store.now result store.now }
 {
+    let letter = letter.letter();
     let line = line_of(store, letter);
     if line.opening.is_none() {
         return refuse(book, Refusal::NotDeclared);

@@ -13,7 +13,7 @@ pub fn rate_of(book: Book, year: u64) -> Option<Rate>
     ensures { result ≡ rates_of book.rates year }
 {
     let year = Year::new(year)?;
-    Rate::new(book.rates[place_of(year)] as u64)
+    Rate::new(u64::from(book.rates[place_of(year)]))
 }
 
 // The book with a year's rate: as it was, where the year is none from 1987 to 2099.

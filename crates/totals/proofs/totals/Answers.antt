@@ -1,10 +1,9 @@
 -- `totals::totals` meets its contract: the goals that the check leaves. Assumes nothing.
-use Rattle.ledger.proofs.Settling.{goes_on, letter_refused}
-use Rattle.totals.proofs.Summed.{letter_sound}
+use Rattle.totals.proofs.Summed.{uncovered, letter_on}
 use Rattle.totals.proofs.totals.Goals as goal
 
-pub returns-then-not-is_covered : goal.returns-then-not-is_covered
-returns-then-not-is_covered c = search letter_refused
+pub returns-in-Some : goal.returns-in-Some
+returns-in-Some c = search letter_on
 
-pub returns : goal.returns
-returns c = search (goes_on, letter_sound)
+pub returns-in-None : goal.returns-in-None
+returns-in-None c = search uncovered

@@ -8,7 +8,7 @@ use Rattle.factor.proofs.Means.{start, left_small, product_small, on, end_none, 
 use Rattle.factor.proofs.composite.mean_factor.Goals as goal
 
 pub loop-at-init : goal.loop-at-init
-loop-at-init c = start _ _ _ c.requires.count
+loop-at-init c = start _ _ _ c.requires.count (rw c.number-half.ensures.value at c.number-half.ensures.within)
 
 pub overflow_add-unpaid : goal.overflow_add-unpaid
 overflow_add-unpaid c =
@@ -40,7 +40,7 @@ loop-at-preserved c =
     on _ _ _ _ c.requires _ _ _ l.at (l.at - 1) l.invariant (omega arith) (omega arith)
 
 pub returns-then-weight-eq0 : goal.returns-then-weight-eq0
-returns-then-weight-eq0 c = end_none _ _ _ _ _ _ _ c.loop-at.invariant (omega arith) c.if-weight-eq0.true
+returns-then-weight-eq0 c = c.number-half.ensures.value ∙ end_none _ _ _ _ _ _ _ c.loop-at.invariant (omega arith) c.if-weight-eq0.true
 
 pub returns : goal.returns
 returns c = end_some _ _ _ _ _ _ _ c.loop-at.invariant (omega arith) c.if-weight-eq0.false

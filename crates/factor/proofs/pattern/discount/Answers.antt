@@ -3,5 +3,5 @@ use mathlib.Core.Path.{sym, ◌∙◌}
 use Rattle.factor.proofs.Verdicts.{fine_fits}
 use Rattle.factor.proofs.pattern.discount.Goals as goal
 
-pub keep-requires : goal.keep-requires
-keep-requires c = fine_fits c.args.letter c.args.rate c.args.paid.now c.args.incurred.now _ (sym c.schedule_of.ensures ∙ c.in_ok-pay.was)
+pub from_payments-requires : goal.from_payments-requires
+from_payments-requires c = fine_fits c.args.letter c.args.rate c.args.paid.now c.args.incurred.now _ (sym c.schedule_of.ensures ∙ c.in_ok-pay.was)
