@@ -7,7 +7,7 @@ ghost use Rattle.journal.specs.ColumnOf.{ColumnOf};
 
 use arrayvec::ArrayVec;
 
-// A column: a number for each age, and one for the prior row.
+// A column: a number for each age, and in a year one for the prior row.
 pub type Column<T> = ArrayVec<T, 11>;
 
 // n numbers, the first at a place and each a step after the one before.
