@@ -1,6 +1,5 @@
--- The six words, byte after byte, and the letter that is none.
+-- The six words, byte after byte.
 -- Assumes nothing.
-use Rattle.std.specs.Prelude.{None}
 use mathlib.Core.Bool.{Bool, true, false, ◌&&◌}
 use Rattle.std.specs.Bool.{if◌then◌else◌}
 use mathlib.Core.Path.{◌≡◌, refl, ap, sym, ◌∙◌}
@@ -11,9 +10,7 @@ use lib.Dec.{eqb}
 use lib.ListN.{length, get_or}
 use borrow.Author.Tests.{eqb-true, ne_eqb, eq-eqb}
 use Rattle.model.specs.Basics.{same}
-use Rattle.model.specs.Letter.{ten_year, two_year}
 use Rattle.model.specs.Record.{Word, LINE, RATE, PATT, YEAR, SUM, MIDT, OTHER, word_of}
-use Rattle.letters.specs.Covered.{covered_letter}
 
 and_false : (b : Bool) → (b && false) ≡ false
 and_false true = refl
@@ -158,8 +155,3 @@ module _ (f : List ℕ) (l : 4 ≤ length f) (m : length f < 5) where
 
   pub other_middle : get_or f 0 0 ≡ 77 → get_or f 1 0 ≡ 73 → (get_or f 2 0 ≡ 68 → ⊥) → OTHER ≡ word_of f
   other_middle a b c = rw (four_bytes, a, b, ne_eqb (get_or f 2 0) 68 c)
-
--- 0 is no letter
-pub uncovered : (letter : ℕ) → 0 ≡ letter → None ≡ covered_letter letter
-unfolding ten_year two_year
-uncovered letter e = rw (← e)

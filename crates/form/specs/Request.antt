@@ -9,22 +9,22 @@ use Rattle.form.specs.declared.request.Request.TheVariants.{Declare, SetRate, Se
 -- the kind of the record that makes a request
 abbrev pub kind : Request → model.Word
 kind (Declare l) = model.LINE
-kind SetRate = model.RATE
-kind SetRateFromRegister = model.RATE_ALONE
+kind (SetRate l) = model.RATE
+kind (SetRateFromRegister l) = model.RATE_ALONE
 kind (AddPattern l) = model.PATT
 kind (CloseYear l) = model.YEAR
 kind (Totals l) = model.SUM
-kind RegisterMonth = model.MIDT
+kind (RegisterMonth l) = model.MIDT
 
--- its letter; 0, which is no letter, where the record has none
+-- the byte that its second field is; 0, which is no letter, where that is not one byte
 abbrev pub letter : Request → ℕ
 letter (Declare l) = l
-letter SetRate = 0
-letter SetRateFromRegister = 0
+letter (SetRate l) = l
+letter (SetRateFromRegister l) = l
 letter (AddPattern l) = l
 letter (CloseYear l) = l
 letter (Totals l) = l
-letter RegisterMonth = 0
+letter (RegisterMonth l) = l
 
 -- "But for RATE: is the second field a covered letter?": MIDT has none either (F-4)
 abbrev pub is_lettered : model.Word → ℕ → Bool
@@ -37,15 +37,15 @@ is_lettered model.SUM l = covered l
 is_lettered model.MIDT l = true
 is_lettered model.OTHER l = false
 
--- the request of a kind of record, with the byte of its letter where it has one; another word asks nothing
+-- the request of a kind of record, with the byte of its letter; another word asks nothing
 abbrev pub request : model.Word → ℕ → Option Request
 request model.LINE l = Some (Declare l)
-request model.RATE l = Some SetRate
-request model.RATE_ALONE l = Some SetRateFromRegister
+request model.RATE l = Some (SetRate l)
+request model.RATE_ALONE l = Some (SetRateFromRegister l)
 request model.PATT l = Some (AddPattern l)
 request model.YEAR l = Some (CloseYear l)
 request model.SUM l = Some (Totals l)
-request model.MIDT l = Some RegisterMonth
+request model.MIDT l = Some (RegisterMonth l)
 request model.OTHER l = None
 
 -- what a record asks, if its letter is covered where it must have one

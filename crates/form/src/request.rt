@@ -3,63 +3,78 @@ ghost use Rattle.std.specs.Prelude.{◌≡◌, Some, length};
 ghost use Rattle.model.specs.Field.{fields, letter_in};
 ghost use Rattle.model.specs.Record.{form_of, field_count, first_number, allows_minus};
 ghost use Rattle.form.specs.Word.{named};
-ghost use Rattle.form.specs.Request.{kind, letter, requested};
-ghost use Rattle.letters.specs.Covered.{covered_letter};
+ghost use Rattle.form.specs.Request.{kind, letter, is_lettered, requested};
 
 use crate::letter::letter_of;
 use crate::word::Word;
 use field::field::has_fields;
 use letters::letter::{is_covered, is_ten_year};
 
-// A call of one of the seven kinds, with the letter where the record has one. The call's numbers stand in the lists that the caller of `record::read` lends.
+// A call of one of the seven kinds, with the byte that the second field is, 0 where it is not one byte; RATE and MIDT need no letter there.
+// The call's numbers stand in the lists that the caller of `record::read` lends.
 #[derive(Clone, Copy, PartialEq, Eq)]
 pub enum Request {
     Declare(u8),
-    SetRate,
-    SetRateFromRegister,
+    SetRate(u8),
+    SetRateFromRegister(u8),
     AddPattern(u8),
     CloseYear(u8),
     Totals(u8),
-    RegisterMonth,
+    RegisterMonth(u8),
 }
 
-// "But for RATE: is the second field a covered letter? (no second field is a no)": the letter, if so.
-#[tactic(auto, using(crate::proofs::Words::uncovered))]
-fn covered_letter(line: &[u8]) -> Option<u8>
-    ensures { result ≡ covered_letter (letter_in (fields line.now)) }
+// The request of a record of the word in its form, whatever its letter. RATE has two forms (F-4): "RATE with a year alone" has two fields.
+pub fn form_of(word: Word, line: &[u8]) -> Request
+    ensures form { kind result ≡ form_of (named (Some word)) (length (fields line.now)) }
+    ensures letter { letter result ≡ letter_in (fields line.now) }
 {
-    let letter = letter_of(line)?;
-    is_covered(letter).then_some(letter)
+    let letter = letter_of(line).unwrap_or(0);
+    match word {
+        Word::Rate if has_fields(line, 2) => Request::SetRateFromRegister(letter),
+        Word::Rate => Request::SetRate(letter),
+        Word::Midt => Request::RegisterMonth(letter),
+        Word::Line => Request::Declare(letter),
+        Word::Patt => Request::AddPattern(letter),
+        Word::Year => Request::CloseYear(letter),
+        Word::Sum => Request::Totals(letter),
+    }
 }
 
-// What a record of the word asks, if its letter is covered where it must have one. RATE has two forms (F-4): "RATE with a year alone" has two fields.
+// What a record of the word asks, if its letter is covered where it must have one.
+#[tactic(auto, using(crate::proofs::Requests::of_its_kind_and_letter))]
 pub fn request_of(word: Word, line: &[u8]) -> Option<Request>
     ensures { result ≡ requested (form_of (named (Some word)) (length (fields line.now))) (letter_in (fields line.now)) }
 {
-    Some(match word {
-        Word::Rate if has_fields(line, 2) => Request::SetRateFromRegister,
-        Word::Rate => Request::SetRate,
-        Word::Midt => Request::RegisterMonth,
-        Word::Line => Request::Declare(covered_letter(line)?),
-        Word::Patt => Request::AddPattern(covered_letter(line)?),
-        Word::Year => Request::CloseYear(covered_letter(line)?),
-        Word::Sum => Request::Totals(covered_letter(line)?),
-    })
+    let request = form_of(word, line);
+    request.is_lettered().then_some(request)
 }
 
 impl Request {
+    // "But for RATE: is the second field a covered letter?" F-4: nor is one asked of MIDT.
+    pub fn is_lettered(self) -> bool
+        ensures { result ≡ is_lettered (kind self) (letter self) }
+    {
+        match self {
+            Request::Declare(letter)
+            | Request::AddPattern(letter)
+            | Request::CloseYear(letter)
+            | Request::Totals(letter) => is_covered(letter),
+            _ => true,
+        }
+    }
+
     // "RATE, year, sixty rates: 62 fields." "PATT ..: 23 or 7 fields." "YEAR ..: 36 or 12 fields." F-2: "SUM has two fields". F-4: MIDT, year, month, rate; and "RATE with a year alone".
     pub fn field_count(self) -> usize
         ensures { result ≡ field_count (kind self) (letter self) }
     {
         match self {
             Request::Declare(_) => 3,
-            Request::SetRate => 62,
-            Request::SetRateFromRegister => 2,
+            Request::SetRate(_) => 62,
+            Request::SetRateFromRegister(_) => 2,
             Request::AddPattern(letter) => if is_ten_year(letter) { 23 } else { 7 },
             Request::CloseYear(letter) => if is_ten_year(letter) { 36 } else { 12 },
             Request::Totals(_) => 2,
-            Request::RegisterMonth => 4,
+            Request::RegisterMonth(_) => 4,
         }
     }
 
@@ -68,7 +83,7 @@ impl Request {
         ensures { result ≡ first_number (kind self) }
     {
         match self {
-            Request::SetRate | Request::SetRateFromRegister | Request::RegisterMonth => 1,
+            Request::SetRate(_) | Request::SetRateFromRegister(_) | Request::RegisterMonth(_) => 1,
             _ => 2,
         }
     }

@@ -46,14 +46,14 @@ module _ (line : List ℕ) (request : Result Request Refusal) (minus : List Bool
       pub declares : (letter : ℕ) → (asks : Request) → request ≡ Ok asks → asks ≡ Declare letter → Does book (as_numbers (declare letter (get_or sizes 2 0))) store r later → Does book (as_bytes line) store r later
       declares letter asks e k h = line_asks line book store r (declare letter (get_or sizes 2 0)) (rw k at (rw e at told)) later h
 
-      pub sets_rate : (asks : Request) → request ≡ Ok asks → asks ≡ SetRate → Does book (as_numbers (set_rate (get_or sizes 1 0) (take 60 (drop 2 sizes)))) store r later → Does book (as_bytes line) store r later
-      sets_rate asks e k h = line_asks line book store r (set_rate (get_or sizes 1 0) (take 60 (drop 2 sizes))) (rw k at (rw e at told)) later h
+      pub sets_rate : (letter : ℕ) → (asks : Request) → request ≡ Ok asks → asks ≡ SetRate letter → Does book (as_numbers (set_rate (get_or sizes 1 0) (take 60 (drop 2 sizes)))) store r later → Does book (as_bytes line) store r later
+      sets_rate letter asks e k h = line_asks line book store r (set_rate (get_or sizes 1 0) (take 60 (drop 2 sizes))) (rw k at (rw e at told)) later h
 
-      pub registers_month : (asks : Request) → request ≡ Ok asks → asks ≡ RegisterMonth → Does book (as_numbers (register_month (get_or sizes 1 0) (get_or sizes 2 0) (get_or sizes 3 0))) store r later → Does book (as_bytes line) store r later
-      registers_month asks e k h = line_asks line book store r (register_month (get_or sizes 1 0) (get_or sizes 2 0) (get_or sizes 3 0)) (rw k at (rw e at told)) later h
+      pub registers_month : (letter : ℕ) → (asks : Request) → request ≡ Ok asks → asks ≡ RegisterMonth letter → Does book (as_numbers (register_month (get_or sizes 1 0) (get_or sizes 2 0) (get_or sizes 3 0))) store r later → Does book (as_bytes line) store r later
+      registers_month letter asks e k h = line_asks line book store r (register_month (get_or sizes 1 0) (get_or sizes 2 0) (get_or sizes 3 0)) (rw k at (rw e at told)) later h
 
-      pub sets_rate_alone : (asks : Request) → request ≡ Ok asks → asks ≡ SetRateFromRegister → Does book (as_numbers (set_rate_from_register (get_or sizes 1 0))) store r later → Does book (as_bytes line) store r later
-      sets_rate_alone asks e k h = line_asks line book store r (set_rate_from_register (get_or sizes 1 0)) (rw k at (rw e at told)) later h
+      pub sets_rate_alone : (letter : ℕ) → (asks : Request) → request ≡ Ok asks → asks ≡ SetRateFromRegister letter → Does book (as_numbers (set_rate_from_register (get_or sizes 1 0))) store r later → Does book (as_bytes line) store r later
+      sets_rate_alone letter asks e k h = line_asks line book store r (set_rate_from_register (get_or sizes 1 0)) (rw k at (rw e at told)) later h
 
       pub adds_pattern : (letter : ℕ) → (asks : Request) → request ≡ Ok asks → asks ≡ AddPattern letter → Does book (as_numbers (pattern_of letter sizes)) store r later → Does book (as_bytes line) store r later
       adds_pattern letter asks e k h = line_asks line book store r (pattern_of letter sizes) (rw k at (rw e at told)) later h

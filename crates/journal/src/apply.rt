@@ -30,12 +30,12 @@ pub fn apply(book: Book, store: &mut Store, line: &[u8]) -> Outcome
     match read(line, &mut minus, &mut sizes) {
         Err(refusal) => refuse(book, refusal),
         Ok(Request::Declare(letter)) => declare(book, store, letter, sizes[2]),
-        Ok(Request::SetRate) => set_rate(book, store, sizes[1], &sizes[2..62]),
+        Ok(Request::SetRate(_)) => set_rate(book, store, sizes[1], &sizes[2..62]),
         Ok(Request::AddPattern(letter)) => apply_pattern(book, store, letter, &sizes),
         Ok(Request::CloseYear(letter)) => apply_year(book, store, letter, &minus, &sizes),
         Ok(Request::Totals(letter)) => totals(book, store, letter),
-        Ok(Request::RegisterMonth) => register_month(book, store, sizes[1], sizes[2], sizes[3]),
-        Ok(Request::SetRateFromRegister) => set_rate_from_register(book, store, sizes[1]),
+        Ok(Request::RegisterMonth(_)) => register_month(book, store, sizes[1], sizes[2], sizes[3]),
+        Ok(Request::SetRateFromRegister(_)) => set_rate_from_register(book, store, sizes[1]),
     }
 }
 

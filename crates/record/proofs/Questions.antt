@@ -47,12 +47,12 @@ room OTHER letter h = absurd (false≢true h)
 
 has_kind : (asks : Request) → has_word (kind asks) ≡ true
 has_kind (Declare l) = refl
-has_kind SetRate = refl
-has_kind SetRateFromRegister = refl
+has_kind (SetRate l) = refl
+has_kind (SetRateFromRegister l) = refl
 has_kind (AddPattern l) = refl
 has_kind (CloseYear l) = refl
 has_kind (Totals l) = refl
-has_kind RegisterMonth = refl
+has_kind (RegisterMonth l) = refl
 
 -- questions 4 and 5
 module _ (s : List ℕ) (asks : Request) (p : Lettered (fields s) asks) (expected : ℕ) (ex : expected ≡ field_count (kind asks) (letter asks)) (place : ℕ) (e : place ≡ first_number (kind asks)) (minus : List Bool) (sizes : List ℕ) where
@@ -62,7 +62,7 @@ module _ (s : List ℕ) (asks : Request) (p : Lettered (fields s) asks) (expecte
       record { upto = omega (arith, r.0); few = omega (arith, r.1); there = rw e p.there; signs = lm; values = ls }
 
   there : expected ≡ field_count (kind asks) (letter_in (fields s))
-  there = ex ∙ p.count
+  there = ex ∙ ap (field_count (kind asks)) p.second
 
   module _ (t : Bool) (ms : List Bool) (ns : List ℕ) (g : Gathered (kind asks) place expected (fields s) minus sizes t ms ns) where
     -- an answer with the lists as they are gathered
@@ -120,7 +120,7 @@ before_there OTHER s h = absurd (false≢true h)
 
 -- a request that a record makes
 abbrev Made : Word → ℕ → Request → Type 0
-Made word l asks = (kind asks ≡ word) × (is_lettered word l ≡ true) × (request word l ≡ Some asks) × (field_count word (letter asks) ≡ field_count word l)
+Made word l asks = (kind asks ≡ word) × (is_lettered word l ≡ true) × (request word l ≡ Some asks) × (letter asks ≡ l)
 
 made_by : (asks own : Request) (t : Bool) → Some asks ≡ (if t then Some own else None) → (t ≡ true) × (asks ≡ own)
 made_by asks own true e = (refl, cc)
@@ -128,12 +128,12 @@ made_by asks own false e = absurd (Some≢None asks e)
 
 made : (word : Word) (l : ℕ) (asks : Request) → Some asks ≡ requested word l → Made word l asks
 made LINE l asks e = let m = made_by asks (Declare l) (covered l) e in rw m.1 (refl, m.0, refl, refl)
-made RATE l asks e = let m = made_by asks SetRate true e in rw m.1 (refl, refl, refl, refl)
-made RATE_ALONE l asks e = let m = made_by asks SetRateFromRegister true e in rw m.1 (refl, refl, refl, refl)
+made RATE l asks e = let m = made_by asks (SetRate l) true e in rw m.1 (refl, refl, refl, refl)
+made RATE_ALONE l asks e = let m = made_by asks (SetRateFromRegister l) true e in rw m.1 (refl, refl, refl, refl)
 made PATT l asks e = let m = made_by asks (AddPattern l) (covered l) e in rw m.1 (refl, m.0, refl, refl)
 made YEAR l asks e = let m = made_by asks (CloseYear l) (covered l) e in rw m.1 (refl, m.0, refl, refl)
 made SUM l asks e = let m = made_by asks (Totals l) (covered l) e in rw m.1 (refl, m.0, refl, refl)
-made MIDT l asks e = let m = made_by asks RegisterMonth true e in rw m.1 (refl, refl, refl, refl)
+made MIDT l asks e = let m = made_by asks (RegisterMonth l) true e in rw m.1 (refl, refl, refl, refl)
 made OTHER l asks e = absurd (Some≢None asks e)
 
 -- none is made of a record of a known word only where its letter is not covered
@@ -143,12 +143,12 @@ none_by own false e = refl
 
 none_made : (word : Word) (l : ℕ) → has_word word ≡ true → None ≡ requested word l → is_lettered word l ≡ false
 none_made LINE l h e = none_by (Declare l) (covered l) e
-none_made RATE l h e = none_by SetRate true e
-none_made RATE_ALONE l h e = none_by SetRateFromRegister true e
+none_made RATE l h e = none_by (SetRate l) true e
+none_made RATE_ALONE l h e = none_by (SetRateFromRegister l) true e
 none_made PATT l h e = none_by (AddPattern l) (covered l) e
 none_made YEAR l h e = none_by (CloseYear l) (covered l) e
 none_made SUM l h e = none_by (Totals l) (covered l) e
-none_made MIDT l h e = none_by RegisterMonth true e
+none_made MIDT l h e = none_by (RegisterMonth l) true e
 none_made OTHER l h e = absurd (false≢true h)
 
 -- the refusal is one and the same
@@ -229,7 +229,7 @@ module _ (s : List ℕ) (minus : List Bool) (sizes : List ℕ) (limit : ℕ) whe
             letter_there =
                 record {
                   known = rw it_is.0 it_is.2;
-                  count = rw it_is.0 it_is.3;
+                  second = it_is.3;
                   there = rw it_is.0 (before_there (record_of (fields s)) s it_is.1);
                 }
 

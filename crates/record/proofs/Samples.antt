@@ -1,4 +1,4 @@
--- Lines read, computed: records of document 01's run, a SUM, a MIDT, a RATE with a year alone, and a line for each of questions 1 to 5.
+-- Lines read, computed: records of document 01's run, a SUM, a MIDT, a RATE with a year alone, three whose second field is one byte and no letter, and a line for each of questions 1 to 5.
 -- Assumes nothing.
 use Rattle.std.specs.Prelude.{Result, Ok, Err}
 use mathlib.Core.Bool.{true, false}
@@ -31,12 +31,15 @@ among k sizes = sets (replicate 62 9) k sizes
 abbrev pub samples : List (List ℕ × Result Request Refusal × List ℕ)
 samples =
     (bytes "LINE\tJ\t0", Ok (Declare 74), among 2 (0 ∷ []))
-    ∷ (bytes "RATE\t2015" ++ months 60, Ok SetRate, among 1 (2015 ∷ replicate 60 2100))
+    ∷ (bytes "RATE\t2015" ++ months 60, Ok (SetRate 0), among 1 (2015 ∷ replicate 60 2100))
     ∷ (bytes "PATT\tJ\t2015\t50\t100\t90\t100", Ok (AddPattern 74), among 2 (2015 ∷ 50 ∷ 100 ∷ 90 ∷ 100 ∷ []))
     ∷ (bytes "YEAR\tJ\t2016\t-7\t0\t0\t40\t10\t0\t0\t0\t10000000000", Ok (CloseYear 74), among 2 (2016 ∷ 7 ∷ 0 ∷ 0 ∷ 40 ∷ 10 ∷ 0 ∷ 0 ∷ 0 ∷ 10000000000 ∷ []))
     ∷ (bytes "SUM\tJ", Ok (Totals 74), among 2 [])
-    ∷ (bytes "MIDT\t1980\t12\t1068", Ok RegisterMonth, among 1 (1980 ∷ 12 ∷ 1068 ∷ []))
-    ∷ (bytes "RATE\t2015", Ok SetRateFromRegister, among 1 (2015 ∷ []))
+    ∷ (bytes "MIDT\t1980\t12\t1068", Ok (RegisterMonth 0), among 1 (1980 ∷ 12 ∷ 1068 ∷ []))
+    ∷ (bytes "RATE\t2015", Ok (SetRateFromRegister 0), among 1 (2015 ∷ []))
+    ∷ (bytes "RATE\t5", Ok (SetRateFromRegister 53), among 1 (5 ∷ []))
+    ∷ (bytes "RATE\t5" ++ months 60, Ok (SetRate 53), among 1 (5 ∷ replicate 60 2100))
+    ∷ (bytes "MIDT\t5\t12\t1068", Ok (RegisterMonth 53), among 1 (5 ∷ 12 ∷ 1068 ∷ []))
     ∷ (bytes "LINE\tJ\t99999999999999999999999999999999", Ok (Declare 74), among 2 (1000000000000 ∷ []))
     ∷ (replicate (suc longest) 65, Err TooLong, among 2 [])
     ∷ (replicate longest 65, Err UnknownWord, among 2 [])

@@ -33,9 +33,9 @@ pub record Asks (line : List ℕ) (call : Call) : Type 0 where
 abbrev pub Says : Result Request Refusal → List Bool → List ℕ → List ℕ → Type 0
 Says (Err refusal) minus sizes line = first_no (line_questions line) ≡ Some (number_of refusal)
 Says (Ok (Declare letter)) minus sizes line = Asks line (declare letter (get_or sizes 2 0))
-Says (Ok SetRate) minus sizes line = Asks line (set_rate (get_or sizes 1 0) (take 60 (drop 2 sizes)))
+Says (Ok (SetRate letter)) minus sizes line = Asks line (set_rate (get_or sizes 1 0) (take 60 (drop 2 sizes)))
 Says (Ok (AddPattern letter)) minus sizes line = Asks line (pattern_of letter sizes)
 Says (Ok (CloseYear letter)) minus sizes line = Asks line (year_of letter minus sizes) × Low (suc (ages letter)) sizes
 Says (Ok (Totals letter)) minus sizes line = Asks line (totals letter)
-Says (Ok RegisterMonth) minus sizes line = Asks line (register_month (get_or sizes 1 0) (get_or sizes 2 0) (get_or sizes 3 0))
-Says (Ok SetRateFromRegister) minus sizes line = Asks line (set_rate_from_register (get_or sizes 1 0))
+Says (Ok (RegisterMonth letter)) minus sizes line = Asks line (register_month (get_or sizes 1 0) (get_or sizes 2 0) (get_or sizes 3 0))
+Says (Ok (SetRateFromRegister letter)) minus sizes line = Asks line (set_rate_from_register (get_or sizes 1 0))

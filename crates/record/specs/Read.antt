@@ -2,7 +2,7 @@
 -- Assumes nothing: these are definitions.
 use Rattle.std.specs.Prelude.{Bool, ◌≡◌, List, ℕ, ◌≤◌, length, if◌then◌else◌, Some, Err}
 use Rattle.model.specs.Field.{letter_in}
-use Rattle.model.specs.Record.{Word, field_count, first_number, call_from}
+use Rattle.model.specs.Record.{Word, first_number, call_from}
 use Rattle.model.specs.Question.{has_word, has_letter, has_fields, is_well_written}
 use Rattle.refusal.specs.declared.Refusal.{Refusal}
 use Rattle.refusal.specs.declared.Refusal.TheVariants.{UnknownWord, UncoveredLetter, WrongCount, BadlyWritten}
@@ -29,8 +29,8 @@ from_letter word fs minus sizes = if has_letter (call_from word fs) then from_co
 abbrev pub from_word : Word → List (List ℕ) → List Bool → List ℕ → LineRead
 from_word word fs minus sizes = if has_word word then from_letter word fs minus sizes else unread UnknownWord minus sizes
 
--- the request of a record with these fields, which has the fields before its first number
+-- the request of a record with these fields, with the byte of the second, which has the fields before its first number
 pub record Lettered (fs : List (List ℕ)) (asks : Request) : Type 0 where
   pub known : request (kind asks) (letter_in fs) ≡ Some asks
-  pub count : field_count (kind asks) (letter asks) ≡ field_count (kind asks) (letter_in fs)
+  pub second : letter asks ≡ letter_in fs
   pub there : first_number (kind asks) ≤ length fs

@@ -20,12 +20,12 @@ pub fn show<W: Write>(output: &mut W, line: &[u8]) -> io::Result<()> {
     match read(line, &mut minus, &mut sizes) {
         Err(refusal) => no(output, refusal)?,
         Ok(Request::Declare(letter)) => declare(output, letter, sizes[2])?,
-        Ok(Request::SetRate) => set_rate(output, &sizes)?,
+        Ok(Request::SetRate(_)) => set_rate(output, &sizes)?,
         Ok(Request::AddPattern(letter)) => add_pattern(output, letter, &minus, &sizes)?,
         Ok(Request::CloseYear(letter)) => close_year(output, letter, &minus, &sizes)?,
         Ok(Request::Totals(letter)) => word(output, "SUM", letter)?,
-        Ok(Request::RegisterMonth) => register_month(output, &sizes)?,
-        Ok(Request::SetRateFromRegister) => set_rate_from_register(output, sizes[1])?,
+        Ok(Request::RegisterMonth(_)) => register_month(output, &sizes)?,
+        Ok(Request::SetRateFromRegister(_)) => set_rate_from_register(output, sizes[1])?,
     }
     writeln!(output)
 }
