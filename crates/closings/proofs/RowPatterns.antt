@@ -19,6 +19,7 @@ use Rattle.model.proofs.Ages.{ages_small}
 use Rattle.reserve.proofs.Closings.{RowFactors}
 use Rattle.line_limits.specs.declared.line.Line.{Line}
 use Rattle.line_limits.specs.declared.line.Patterns.{Patterns}
+use Rattle.line_limits.specs.Line.{kept_patterns}
 use Rattle.state.specs.Lines.{Limited}
 use Rattle.state.specs.Patterns.{slot_at, factor_in, kept_back}
 use Rattle.closings.specs.Rows.{have_patterns, row_factor_of, FactorsOf}
@@ -27,7 +28,7 @@ use Rattle.state.proofs.Limited.{kept}
 use Rattle.state.proofs.KeptYears.{kept_year, kept_past, find_kept, find_none}
 
 -- the factor of each row
-module _ (store : List ℕ) (letter : ℕ) (line : Line) (l : Limited letter line) (p : Patterns) (e : line.patterns ≡ Some p) where
+module _ (store : List ℕ) (letter : ℕ) (line : Line) (l : Limited letter line) (p : Patterns) (e : kept_patterns line ≡ Some p) where
   some_kept : 0 < p.count
   some_kept = (kept letter line l p e).1
 
@@ -93,7 +94,7 @@ module _ (store : List ℕ) (letter kept last : ℕ) (past : kept ≤ last) wher
   have_from k (suc n) (p ∷ paid) (u ∷ unpaid) (t ∷ tabular) e le =
       have_by k n p u t paid unpaid tabular (ltb k kept) refl (omega arith) (have_from (suc k) n paid unpaid tabular (omega arith) (omega arith))
 
-pub have_patterns_is : (store : List ℕ) (letter : ℕ) (line : Line) → Limited letter line → (p : Patterns) → line.patterns ≡ Some p → (paid : List ℤ) (unpaid tabular : List ℕ) → length paid ≡ suc (ages letter) → length unpaid ≡ suc (ages letter) → length tabular ≡ suc (ages letter)
+pub have_patterns_is : (store : List ℕ) (letter : ℕ) (line : Line) → Limited letter line → (p : Patterns) → kept_patterns line ≡ Some p → (paid : List ℤ) (unpaid tabular : List ℕ) → length paid ≡ suc (ages letter) → length unpaid ≡ suc (ages letter) → length tabular ≡ suc (ages letter)
     → have_patterns p.count (ages letter) unpaid tabular ≡ have_kept (line_of store letter line).kept p.last 0 (take (ages letter) (rows_of paid unpaid tabular))
 unfolding line_of
 have_patterns_is store letter line l p e paid unpaid tabular ep eu et =

@@ -13,6 +13,7 @@ use Rattle.model.specs.Question as model
 use Rattle.model.proofs.Lists.{and_left, and_right}
 use Rattle.line_limits.specs.declared.line.Line.{Line}
 use Rattle.line_limits.specs.declared.line.Patterns.{Patterns}
+use Rattle.line_limits.specs.Line.{kept_patterns}
 use Rattle.state.specs.Lines.{Limited}
 use Rattle.state.specs.Patterns.{kept_back}
 use Rattle.state.specs.View.{closed_of, kept_of, line_of}
@@ -34,13 +35,13 @@ kept_same store letter zero last year closed closing some = absurd (omega arith)
 kept_same store letter (suc n) last year closed closing some = rw (open_same closed closing year)
 
 module _ (store : List ℕ) (letter : ℕ) (line : Line) (year : ℕ) (l : Limited letter line) where
-  due_by : (patterns : Option Patterns) → line.patterns ≡ patterns → (model.is_year_of (latest (kept_of store letter patterns)) year && model.is_open (closed_of line.closed line.closing) year) ≡ is_some (due_of patterns line.closed year)
+  due_by : (patterns : Option Patterns) → kept_patterns line ≡ patterns → (model.is_year_of (latest (kept_of store letter patterns)) year && model.is_open (closed_of line.closed line.closing) year) ≡ is_some (due_of patterns line.closed year)
   due_by None e = refl
   due_by (Some p) e = kept_same store letter p.count p.last year line.closed line.closing (kept letter line l p e).1 ∙ some_same (eqb year p.last && is_open line.closed year) p
 
   pub due_is : (model.is_year_of (latest (line_of store letter line).kept) year && model.is_open (line_of store letter line).closed year) ≡ is_some (due line year)
   unfolding line_of due
-  due_is = due_by line.patterns refl
+  due_is = due_by (kept_patterns line) refl
 
 -- a year that is due is that of the last pattern, and open
 due_facts : (patterns : Option Patterns) (closed : Option ℕ) (year : ℕ) (p : Patterns) → due_of patterns closed year ≡ Some p → (patterns ≡ Some p) × (year ≡ p.last) × (is_open closed year ≡ true)
@@ -51,11 +52,11 @@ due_facts (Some q) closed year p e =
     (ap (λ (x : Patterns). Some x) found.1, last ∙ ap (λ (x : Patterns). x.last) found.1, and_right (eqb year q.last) (is_open closed year) found.0)
 
 module _ (year : ℕ) (line : Line) (p : Patterns) (e : due line year ≡ Some p) where
-  facts : (line.patterns ≡ Some p) × (year ≡ p.last) × (is_open line.closed year ≡ true)
+  facts : (kept_patterns line ≡ Some p) × (year ≡ p.last) × (is_open line.closed year ≡ true)
   unfolding due
-  facts = due_facts line.patterns line.closed year p e
+  facts = due_facts (kept_patterns line) line.closed year p e
 
-  pub due_kept : line.patterns ≡ Some p
+  pub due_kept : kept_patterns line ≡ Some p
   due_kept = facts.0
 
   pub due_last : year ≡ p.last

@@ -17,6 +17,7 @@ use Rattle.model.proofs.Lists.{and_left, and_right}
 use Rattle.state.specs.declared.book.Book.{Book}
 use Rattle.line_limits.specs.declared.line.Line.{Line}
 use Rattle.line_limits.specs.declared.line.Patterns.{Patterns}
+use Rattle.line_limits.specs.Line.{declared_opening}
 use Rattle.refusal.specs.declared.Refusal.TheVariants as refusal
 use Rattle.ledger.specs.declared.answer.Outcome.{Outcome}
 use Rattle.state.specs.Lines.{line_at}
@@ -57,7 +58,7 @@ module _ (book : Book) (store : List ℕ) (letter year : ℕ) (paid : List ℤ) 
   call = close_year letter year paid unpaid tabular
 
   first_is : first_no (book_questions (view book store) call)
-      ≡ (if is_some line.opening then (if is_some (due line year) then (if have_kept (line_of store letter line).kept year 0 (take (ages letter) (rows_of paid unpaid tabular)) then None else Some 13) else Some 10) else Some 8)
+      ≡ (if is_some (declared_opening line) then (if is_some (due line year) then (if have_kept (line_of store letter line).kept year 0 (take (ages letter) (rows_of paid unpaid tabular)) then None else Some 13) else Some 10) else Some 8)
   unfolding book_questions line_of
   first_is = rw (line_is store letter line here, due_is store letter line year (line_limited store letter line here))
 
@@ -66,16 +67,19 @@ module _ (book : Book) (store : List ℕ) (letter year : ℕ) (paid : List ℤ) 
       rw (due_last year line p is_due)
       (sym (have_patterns_is store letter line (line_limited store letter line here) p (due_kept year line p is_due) paid unpaid tabular (paid_rows letter year paid unpaid tabular sound) (unpaid_rows letter year paid unpaid tabular sound) (tabular_rows letter year paid unpaid tabular sound)))
 
-  module _ (missing : Bool) (em : is_some line.opening ≡ not missing) where
+  module _ (o : Option ℕ) (eo : o ≡ declared_opening line) (missing : Bool) (em : is_some o ≡ not missing) where
+    missing_is : is_some (declared_opening line) ≡ not missing
+    missing_is = ap (λ (x : Option ℕ). is_some x) (sym eo) ∙ em
+
     module _ (found : Option Patterns) (ef : found ≡ due line year) (m : missing ≡ false) where
       pub turned : (p : Patterns) → found ≡ Some p → Turned store line p letter year paid unpaid tabular
-      turned p ep = record { sound = sound; here = here; declared = em ∙ ap not m; is_due = sym ef ∙ ep }
+      turned p ep = record { sound = sound; here = here; declared = missing_is ∙ ap not m; is_due = sym ef ∙ ep }
 
       pub out_of_turn : found ≡ None → (r : Outcome) → r ≡ refused_of book refusal.OutOfTurn → Settled book call store r store
-      out_of_turn en r er = refused book refusal.OutOfTurn (first_no (book_questions (view book store) call)) call store r (first_is ∙ rw (← ef, en, em, m)) er
+      out_of_turn en r er = refused book refusal.OutOfTurn (first_no (book_questions (view book store) call)) call store r (first_is ∙ rw (← ef, en, missing_is, m)) er
 
     pub undeclared : missing ≡ true → (r : Outcome) → r ≡ refused_of book refusal.NotDeclared → Settled book call store r store
-    undeclared m r er = refused book refusal.NotDeclared (first_no (book_questions (view book store) call)) call store r (first_is ∙ rw (em, m)) er
+    undeclared m r er = refused book refusal.NotDeclared (first_no (book_questions (view book store) call)) call store r (first_is ∙ rw (missing_is, m)) er
 
 module _ (store : List ℕ) (line : Line) (p : Patterns) (letter year : ℕ) (paid : List ℤ) (unpaid tabular : List ℕ) (pre : Turned store line p letter year paid unpaid tabular) where
   by_patterns : (book : Book) (has : Bool) → has ≡ have_patterns p.count (ages letter) unpaid tabular → first_no (book_questions (view book store) (close_year letter year paid unpaid tabular)) ≡ (if has then None else Some 13)

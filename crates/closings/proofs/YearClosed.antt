@@ -3,7 +3,7 @@
 use Rattle.std.specs.Prelude.{if◌then◌else◌, Option, None, Some, is_some, unwrap_or, Result, Ok}
 use mathlib.Core.Bool.{Bool, true, false, ◌&&◌}
 use mathlib.Core.List.{List}
-use mathlib.Core.Path.{◌≡◌, refl, sym, ◌∙◌}
+use mathlib.Core.Path.{◌≡◌, refl, sym, ap, ◌∙◌}
 use Prim.Native.Nat.{ℕ, suc, ◌≤◌, ◌<◌}
 use native.Mathlib.Omega.{arith}
 use borrow.Author.Tests.{eq-eqb}
@@ -29,6 +29,7 @@ use Rattle.reserve.proofs.Verdicts.{limits_of_year, paid_limit, closing_limit_le
 use Rattle.state.specs.declared.book.Book.{Book}
 use Rattle.line_limits.specs.declared.line.Line.{Line}
 use Rattle.line_limits.specs.declared.line.Patterns.{Patterns}
+use Rattle.line_limits.specs.Line.{declared_opening, kept_patterns}
 use Rattle.line_limits.specs.declared.totals.Totals.{Totals}
 use Rattle.line_limits.specs.Totals.{Within, with_year_of}
 use Rattle.line_limits.proofs.TotalLimits.{year_within_lem}
@@ -43,7 +44,7 @@ use Rattle.ledger.specs.Answer.{accepted_of}
 use Rattle.ledger.specs.Does.{book_settled, store_settled, Settled}
 use Rattle.closings.specs.CloseYear.{is_open, opening_of, Passed}
 use Rattle.closings.specs.Totals.{OfAYear}
-use Rattle.state.proofs.Limited.{opening_small, closing_small, closed_kept, line_limited, closing_limited}
+use Rattle.state.proofs.Limited.{keeps, opening_small, closing_small, closed_kept, line_limited, closing_limited}
 use Rattle.state.proofs.Views.{line_is}
 use Rattle.state.proofs.ClosedYears.{year_put, year_register}
 use Rattle.state.proofs.TotalPieces.{totals_within}
@@ -58,16 +59,16 @@ from_same (Some year) closing declared = refl
 
 opening_is : (store : List ℕ) (letter : ℕ) (line : Line) → opening (line_of store letter line) ≡ opening_of line
 unfolding line_of
-opening_is store letter line = from_same line.closed line.closing (unwrap_or line.opening 0)
+opening_is store letter line = from_same line.closed line.closing (unwrap_or (declared_opening line) 0)
 
 module _ (letter : ℕ) (line : Line) (l : Limited letter line) where
-  declared_small : (o : Option ℕ) → line.opening ≡ o → unwrap_or o 0 ≤ 100000000000
-  declared_small None e = omega arith
-  declared_small (Some n) e = opening_small letter line l n e
+  declared_small : (t : Bool) → unwrap_or (if t then Some line.opening else None) 0 ≤ 100000000000
+  declared_small true = opening_small letter line l
+  declared_small false = omega arith
 
-  from_small : (t : Bool) → (if t then line.closing else unwrap_or line.opening 0) ≤ 110000000000
+  from_small : (t : Bool) → (if t then line.closing else unwrap_or (declared_opening line) 0) ≤ 110000000000
   from_small true = closing_small letter line l
-  from_small false = omega (arith, declared_small line.opening refl)
+  from_small false = omega (arith, declared_small line.declared)
 
 module _ (store : List ℕ) (line : Line) (patterns : Patterns) (letter year : ℕ) (paid : List ℤ) (unpaid tabular : List ℕ) (pre : Passed store line patterns letter year paid unpaid tabular) where
   abbrev rows : List Row
@@ -85,11 +86,17 @@ module _ (store : List ℕ) (line : Line) (patterns : Patterns) (letter year : �
   limited : Limited letter line
   limited = line_limited store letter line pre.turned.here
 
-  keeps : line.patterns ≡ Some patterns
-  keeps = due_kept year line patterns pre.turned.is_due
+  kept : kept_patterns line ≡ Some patterns
+  kept = due_kept year line patterns pre.turned.is_due
+
+  some_kept : 0 < line.patterns.count
+  some_kept = (keeps line patterns kept).0
 
   last : year ≡ patterns.last
   last = due_last year line patterns pre.turned.is_due
+
+  last_kept : year ≡ line.patterns.last
+  last_kept = last ∙ ap (λ (p : Patterns). p.last) (sym (keeps line patterns kept).1)
 
   opening_limit_lem : opening_of line ≤ 110000000000
   opening_limit_lem = from_small letter line limited (is_some line.closed)
@@ -102,7 +109,7 @@ module _ (store : List ℕ) (line : Line) (patterns : Patterns) (letter year : �
     amount = closing letter shown year rows
 
     row_factors : RowFactors letter shown year factors (suc (ages letter))
-    row_factors = rw last (row_factors_are store letter line limited patterns keeps factors are)
+    row_factors = rw last (row_factors_are store letter line limited patterns kept factors are)
 
     amount_small : amount ≤ 110000000000
     amount_small =
@@ -119,7 +126,7 @@ module _ (store : List ℕ) (line : Line) (patterns : Patterns) (letter year : �
     end_is = year_end_of_line letter paid unpaid tabular pre.turned.sound.lengths has_limits_lem factors shown year (opening_of line) pre.turned.sound.letter opening_limit_lem row_factors
 
     closed_limited : Limited letter (with_closing_of line year amount)
-    closed_limited = closing_limited letter line limited year is_year_lem amount patterns keeps last amount_small
+    closed_limited = closing_limited letter line limited year is_year_lem amount some_kept last_kept amount_small
 
     of_a_year : OfAYear figures
     of_a_year =
@@ -144,7 +151,7 @@ module _ (store : List ℕ) (line : Line) (patterns : Patterns) (letter year : �
       is_later before e =
           let still_open : is_open (Some before) year ≡ true = rw e at (due_open year line patterns pre.turned.is_due) in
           let other : before ≡ year → ⊥ = λ q. true≢false (sym still_open ∙ rw (eq-eqb before year q)) in
-          omega (arith, other, last, (closed_kept letter line limited patterns before keeps e).1)
+          omega (arith, other, last_kept, (closed_kept letter line limited before e).2)
 
       abbrev totals : Totals
       totals = with_year_of (totals_at store letter line.closed) (paid_total rows) tax_loss

@@ -6,6 +6,7 @@ use Rattle.model.specs.Call.{close_year}
 use Rattle.model.specs.Question.{Sound}
 use Rattle.line_limits.specs.declared.line.Line.{Line}
 use Rattle.line_limits.specs.declared.line.Patterns.{Patterns}
+use Rattle.line_limits.specs.Line.{declared_opening, kept_patterns}
 use Rattle.state.specs.Lines.{line_at}
 use Rattle.closings.specs.Rows.{have_patterns}
 
@@ -21,17 +22,17 @@ due_of (Some patterns) closed year = if eqb year patterns.last && is_open closed
 
 -- the patterns of a line's year that is due
 unfoldable pub due : Line → ℕ → Option Patterns
-due line year = due_of line.patterns line.closed year
+due line year = due_of (kept_patterns line) line.closed year
 
 -- "Opening is the last closing, or the declared opening."
 abbrev pub opening_of : Line → ℕ
-opening_of line = if is_some line.closed then line.closing else unwrap_or line.opening 0
+opening_of line = if is_some line.closed then line.closing else unwrap_or (declared_opening line) 0
 
 -- a YEAR that questions 3 to 10 let through
 pub record Turned (store : List ℕ) (line : Line) (patterns : Patterns) (letter year : ℕ) (paid : List ℤ) (unpaid tabular : List ℕ) : Type 0 where
   pub sound : Sound (close_year letter year paid unpaid tabular)
   pub here : line ≡ line_at store letter
-  pub declared : is_some line.opening ≡ true
+  pub declared : is_some (declared_opening line) ≡ true
   pub is_due : due line year ≡ Some patterns
 
 -- and question 13

@@ -67,7 +67,7 @@ fn ask_declared(
     ensures { Settled book (close_year letter year paid.now unpaid.now tabular.now) store.old result store.new }
 {
     let line = line_of(store, letter);
-    if line.opening.is_none() {
+    if line.declared_opening().is_none() {
         return refuse(book, Refusal::NotDeclared);
     }
     let Some(patterns) = due(line, year) else {
@@ -83,7 +83,7 @@ fn ask_declared(
 fn due(line: Line, year: u64) -> Option<Patterns>
     ensures { result ≡ due line year }
 {
-    let patterns = line.patterns?;
+    let patterns = line.kept_patterns()?;
     if year == patterns.last && line.closed.is_none_or(|closed| closed != year) {
         Some(patterns)
     } else {
@@ -152,7 +152,7 @@ fn opening_of(line: Line) -> u64
     if line.closed.is_some() {
         line.closing
     } else {
-        line.opening.unwrap_or(0)
+        line.declared_opening().unwrap_or(0)
     }
 }
 

@@ -3,7 +3,7 @@
 use Rattle.std.specs.Prelude.{if◌then◌else◌, Option, None, Some, is_some}
 use mathlib.Core.Bool.{Bool, true, false}
 use mathlib.Core.List.{List}
-use mathlib.Core.Path.{◌≡◌, refl, sym, ◌∙◌}
+use mathlib.Core.Path.{◌≡◌, refl, sym, ap, ◌∙◌}
 use Prim.Native.Nat.{ℕ}
 use borrow.Author.Tests.{leb-true}
 use lib.ListN.{length}
@@ -18,6 +18,7 @@ use Rattle.letters.specs.Covered.{covered_letter}
 use Rattle.state.specs.declared.book.Book.{Book}
 use Rattle.line_limits.specs.declared.line.Line.{Line}
 use Rattle.line_limits.specs.declared.line.Patterns.{Patterns}
+use Rattle.line_limits.specs.Line.{declared_opening}
 use Rattle.refusal.specs.declared.Refusal.TheVariants as refusal
 use Rattle.ledger.specs.declared.answer.Answer.TheVariants as answer
 use Rattle.ledger.specs.declared.answer.Outcome.{Outcome}
@@ -55,23 +56,27 @@ module _ (book : Book) (letter opening : ℕ) (store : List ℕ) (k : ℕ) (ek :
   here : line ≡ line_at store letter
   here = rw (← ek) ei
 
-  first_is : (t : Bool) → is_some line.opening ≡ t → first_no (book_questions (view book store) (declare letter opening)) ≡ (if t then Some 7 else None)
+  first_is : (t : Bool) → is_some (declared_opening line) ≡ t → first_no (book_questions (view book store) (declare letter opening)) ≡ (if t then Some 7 else None)
   unfolding book_questions line_of
   first_is true e = rw (line_is store letter line here, e)
   first_is false e = rw (line_is store letter line here, e)
 
-  module _ (given : Bool) (eg : given ≡ is_some line.opening) where
+  module _ (o : Option ℕ) (eo : o ≡ declared_opening line) (given : Bool) (eg : given ≡ is_some o) where
+    given_is : is_some (declared_opening line) ≡ given
+    given_is = ap (λ (x : Option ℕ). is_some x) (sym eo) ∙ sym eg
+
     pub given_refused : given ≡ true → r ≡ refused_of book refusal.AlreadyGiven → Settled book (declare letter opening) store r store
-    given_refused d er = refused book refusal.AlreadyGiven (first_no (book_questions (view book store) (declare letter opening))) (declare letter opening) store r (first_is true (sym eg ∙ d)) er
+    given_refused d er = refused book refusal.AlreadyGiven (first_no (book_questions (view book store) (declare letter opening))) (declare letter opening) store r (first_is true (given_is ∙ d)) er
 
     -- n is the opening, and the rest of the line is as its default
     pub declared : given ≡ false → (n : ℕ) → r ≡ accepted_of book (answer.Line k n) → n ≡ opening → length store ≡ size → covered k ≡ true → is_opening n ≡ true
-        → (later : List ℕ) (closed : Option ℕ) (closing : ℕ) (patterns : Option Patterns) → later ≡ with_line_of store k (record { opening = Some n; closed = closed; closing = closing; patterns = patterns }) → closed ≡ None → closing ≡ 0 → patterns ≡ None → Settled book (declare letter opening) store r later
+        → (later : List ℕ) (closed : Option ℕ) (closing : ℕ) (patterns : Patterns) → later ≡ with_line_of store k (record { declared = true; opening = n; closed = closed; closing = closing; patterns = patterns }) → closed ≡ None → closing ≡ 0 → patterns.last ≡ 0 → patterns.count ≡ 0 → Settled book (declare letter opening) store r later
     unfolding accept book_settled store_settled line_of kept_back
-    declared d n er en long c o later closed closing patterns el ec es ep =
+    declared d n er en long c within later closed closing patterns el ec es ep ecount =
         let ck : covered letter ≡ true = rw (← ek) c in
-        let oo : is_opening opening ≡ true = rw (← en) o in
-        rw (first_is false (sym eg ∙ d), er, el, ec, es, ep, ek, en)
+        let oo : is_opening opening ≡ true = rw (← en) within in
+        let none_kept : patterns ≡ record { last = 0; count = 0 } = λ i. record { last = ep i; count = ecount i } in
+        rw (first_is false (given_is ∙ d), er, el, ec, es, none_kept, ek, en)
         record {
           outcome = rw (register_same store letter (new_line opening) ck long, lines_put store letter (new_line opening) ck long (new_limited letter opening (leb-true opening 100000000000 oo)), zeros_where_none_closed store letter);
           own = refl;

@@ -33,11 +33,12 @@ fn ask_given(book: Book, store: &mut Store, letter: Covered, opening: Opening) -
 {
     let letter = letter.letter();
     let opening = opening.number();
-    if line_of(store, letter).opening.is_some() {
+    if line_of(store, letter).declared_opening().is_some() {
         return refuse(book, Refusal::AlreadyGiven);
     }
     let line = Line {
-        opening: Some(opening),
+        declared: true,
+        opening,
         ..Line::default()
     };
     keep_line(store, letter, line);

@@ -1,2 +1,3 @@
 pub mod Limits
+pub mod Line
 pub mod Totals

@@ -1,10 +1,10 @@
 -- PATT: what an accepted one leaves.
 -- Assumes nothing.
-use Rattle.std.specs.Prelude.{Some, Result, Ok}
+use Rattle.std.specs.Prelude.{Result, Ok}
 use mathlib.Core.Bool.{Bool, true, ◌&&◌}
 use mathlib.Core.List.{List, [], ◌∷◌, ◌++◌, map}
 use mathlib.Core.Path.{◌≡◌, refl, ap}
-use Prim.Native.Nat.{ℕ, ◌+◌}
+use Prim.Native.Nat.{ℕ, ◌+◌, ◌<◌}
 use borrow.Author.Tests.{eqb-true}
 use lib.Dec.{eqb}
 use lib.ListN.{length}
@@ -26,7 +26,6 @@ use Rattle.factor.specs.declared.pattern.Pattern.{Pattern}
 use Rattle.factor.specs.Pattern.{pattern_of}
 use Rattle.state.specs.declared.book.Book.{Book}
 use Rattle.line_limits.specs.declared.line.Line.{Line}
-use Rattle.line_limits.specs.declared.line.Patterns.{Patterns}
 use Rattle.state.specs.Store.{size}
 use Rattle.state.specs.Lines.{Limited, with_line_of, with_pattern_of}
 use Rattle.state.specs.Patterns.{slot_of, with_slot_of}
@@ -55,7 +54,7 @@ module _ (book : Book) (store : List ℕ) (line : Line) (letter year rate : ℕ)
   is_year_lem : is_year year ≡ true
   is_year_lem = and_left (is_year year) (list_all is_amount paid) (and_left (is_year year && list_all is_amount paid) (list_all is_amount incurred) pre.sound.limits)
 
-  shown : length store ≡ size → Limited letter line → ((p : Patterns) → line.patterns ≡ Some p → year ≡ p.last + 1)
+  shown : length store ≡ size → Limited letter line → (0 < line.patterns.count → year ≡ line.patterns.last + 1)
       → view (one_more_accepted book) (with_line_of (with_slot_of store letter year (slot_of letter (kept_pattern letter year rate pay))) letter (with_pattern_of letter line year)) ≡ with_line (view book store) letter (with_pattern letter (lines_of store letter) (kept_pattern letter year rate pay))
   shown n l next = rw (pattern_register store letter year rate pay pre.sound.letter n count line l is_year_lem next, pattern_put store letter year rate pay pre.sound.letter n count line l is_year_lem next, line_is store letter line pre.here)
 

@@ -18,6 +18,7 @@ use Rattle.factor.specs.declared.pattern.Pattern.{Pattern}
 use Rattle.factor.specs.Pattern.{kept_of, pattern_of}
 use Rattle.state.specs.declared.book.Book.{Book}
 use Rattle.line_limits.specs.declared.line.Line.{Line}
+use Rattle.line_limits.specs.Line.{declared_opening}
 use Rattle.refusal.specs.declared.Refusal.{Refusal}
 use Rattle.refusal.specs.declared.Refusal.TheVariants as refusal
 use Rattle.ledger.specs.declared.answer.Outcome.{Outcome}
@@ -45,26 +46,29 @@ module _ (book : Book) (store : List ℕ) (letter year : ℕ) (paid incurred : L
   call = add_pattern letter year paid incurred
 
   first_is : first_no (book_questions (view book store) call)
-      ≡ (if is_some line.opening then (if is_some (rates_of book.rates year) then (if follows_last line year then (if has_incurred call then (if climbs call then None else Some 12) else Some 11) else Some 10) else Some 9) else Some 8)
+      ≡ (if is_some (declared_opening line) then (if is_some (rates_of book.rates year) then (if follows_last line year then (if has_incurred call then (if climbs call then None else Some 12) else Some 11) else Some 10) else Some 9) else Some 8)
   unfolding book_questions line_of
   first_is = rw (line_is store letter line here, follows_is store letter line year (line_limited store letter line here))
 
+  missing_is : (o : Option ℕ) → o ≡ declared_opening line → (missing : Bool) → is_some o ≡ not missing → is_some (declared_opening line) ≡ not missing
+  missing_is o eo missing em = ap (λ (x : Option ℕ). is_some x) (sym eo) ∙ em
+
   module _ (r : Outcome) where
-    module _ (missing : Bool) (em : is_some line.opening ≡ not missing) where
+    module _ (o : Option ℕ) (eo : o ≡ declared_opening line) (missing : Bool) (em : is_some o ≡ not missing) where
       pub undeclared : missing ≡ true → r ≡ refused_of book refusal.NotDeclared → Settled book call store r store
-      undeclared m er = refused book refusal.NotDeclared (first_no (book_questions (view book store) call)) call store r (first_is ∙ rw (em, m)) er
+      undeclared m er = refused book refusal.NotDeclared (first_no (book_questions (view book store) call)) call store r (first_is ∙ rw (missing_is o eo missing em, m)) er
 
       module _ (m : missing ≡ false) (rate : Option ℕ) (erate : rate ≡ rates_of book.rates year) where
         pub unrated : rate ≡ None → r ≡ refused_of book refusal.NoRate → Settled book call store r store
-        unrated e er = refused book refusal.NoRate (first_no (book_questions (view book store) call)) call store r (first_is ∙ rw (em, m, ← erate, e)) er
+        unrated e er = refused book refusal.NoRate (first_no (book_questions (view book store) call)) call store r (first_is ∙ rw (missing_is o eo missing em, m, ← erate, e)) er
 
         module _ (number : ℕ) (e : rate ≡ Some number) (follows : Bool) (ef : follows ≡ follows_last line year) where
           pub out_of_turn : follows ≡ false → r ≡ refused_of book refusal.OutOfTurn → Settled book call store r store
           out_of_turn f er =
-              refused book refusal.OutOfTurn (first_no (book_questions (view book store) call)) call store r (first_is ∙ rw (← ef, f, ← erate, e, em, m)) er
+              refused book refusal.OutOfTurn (first_no (book_questions (view book store) call)) call store r (first_is ∙ rw (← ef, f, ← erate, e, missing_is o eo missing em, m)) er
 
-  pub turned : (missing : Bool) → is_some line.opening ≡ not missing → missing ≡ false → (rate : Option ℕ) → rate ≡ rates_of book.rates year → (number : ℕ) → rate ≡ Some number → (follows : Bool) → follows ≡ follows_last line year → follows ≡ true → Turned book store line letter year number paid incurred
-  turned missing em m rate erate number e follows ef f = record { sound = sound; here = here; declared = em ∙ ap not m; rated = sym erate ∙ e; turn = sym ef ∙ f }
+  pub turned : (o : Option ℕ) → o ≡ declared_opening line → (missing : Bool) → is_some o ≡ not missing → missing ≡ false → (rate : Option ℕ) → rate ≡ rates_of book.rates year → (number : ℕ) → rate ≡ Some number → (follows : Bool) → follows ≡ follows_last line year → follows ≡ true → Turned book store line letter year number paid incurred
+  turned o eo missing em m rate erate number e follows ef f = record { sound = sound; here = here; declared = missing_is o eo missing em ∙ ap not m; rated = sym erate ∙ e; turn = sym ef ∙ f }
 
 -- questions 11 and 12, by what `discount` answers
 abbrev first_of : Bool → Bool → Option ℕ

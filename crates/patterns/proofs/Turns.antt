@@ -7,13 +7,14 @@ use mathlib.Core.Path.{◌≡◌, refl}
 use Prim.Native.Nat.{ℕ, zero, suc, ◌+◌, ◌<◌}
 use native.Mathlib.Omega.{arith}
 use native.Mathlib.Numerals.{add-one}
-use borrow.Author.Tests.{eqb-true}
+use borrow.Author.Tests.{eqb-true, lt-ltb}
 use lib.Dec.{eqb}
 use Rattle.model.specs.Book.{latest}
 use Rattle.model.specs.Question as model
 use Rattle.model.proofs.Lists.{and_left}
 use Rattle.line_limits.specs.declared.line.Line.{Line}
 use Rattle.line_limits.specs.declared.line.Patterns.{Patterns}
+use Rattle.line_limits.specs.Line.{kept_patterns}
 use Rattle.state.specs.Lines.{Limited}
 use Rattle.state.specs.Patterns.{kept_back}
 use Rattle.state.specs.View.{closed_of, kept_of, line_of}
@@ -31,15 +32,17 @@ kept_same store letter zero last year closed closing some = absurd (omega arith)
 kept_same store letter (suc n) last year closed closing some = rw (add-one, closed_same closed closing last)
 
 module _ (store : List ℕ) (letter : ℕ) (line : Line) (year : ℕ) (l : Limited letter line) where
-  follows_by : (patterns : Option Patterns) → line.patterns ≡ patterns → model.follows (latest (kept_of store letter patterns)) (closed_of line.closed line.closing) year ≡ follows patterns line.closed year
+  follows_by : (patterns : Option Patterns) → kept_patterns line ≡ patterns → model.follows (latest (kept_of store letter patterns)) (closed_of line.closed line.closing) year ≡ follows patterns line.closed year
   follows_by None e = refl
   follows_by (Some p) e = kept_same store letter p.count p.last year line.closed line.closing (kept letter line l p e).1
 
   pub follows_is : model.follows (latest (line_of store letter line).kept) (line_of store letter line).closed year ≡ follows_last line year
   unfolding line_of follows_last
-  follows_is = follows_by line.patterns refl
+  follows_is = follows_by (kept_patterns line) refl
 
 -- a line that keeps patterns is followed by the year after its last one
-pub next_year : (line : Line) (year : ℕ) → follows_last line year ≡ true → (p : Patterns) → line.patterns ≡ Some p → year ≡ p.last + 1
+pub next_year : (line : Line) (year : ℕ) → follows_last line year ≡ true → 0 < line.patterns.count → year ≡ line.patterns.last + 1
 unfolding follows_last
-next_year line year f p e = eqb-true year (p.last + 1) (and_left (eqb year (p.last + 1)) (last_is_closed line.closed p.last) (rw e at f))
+next_year line year f some =
+    let last : ℕ = line.patterns.last in
+    eqb-true year (last + 1) (and_left (eqb year (last + 1)) (last_is_closed line.closed last) (rw (lt-ltb 0 line.patterns.count some) at f))

@@ -6,6 +6,7 @@ use Rattle.model.specs.Question.{Sound}
 use Rattle.state.specs.declared.book.Book.{Book}
 use Rattle.line_limits.specs.declared.line.Line.{Line}
 use Rattle.line_limits.specs.declared.line.Patterns.{Patterns}
+use Rattle.line_limits.specs.Line.{declared_opening, kept_patterns}
 use Rattle.state.specs.Rates.{rates_of}
 use Rattle.state.specs.Lines.{line_at}
 
@@ -21,12 +22,12 @@ follows (Some patterns) closed year = eqb year (patterns.last + 1) && last_is_cl
 
 -- and both of a line
 unfoldable pub follows_last : Line → ℕ → Bool
-follows_last line year = follows line.patterns line.closed year
+follows_last line year = follows (kept_patterns line) line.closed year
 
 -- a PATT that questions 3 to 10 let through
 pub record Turned (book : Book) (store : List ℕ) (line : Line) (letter year rate : ℕ) (paid incurred : List ℕ) : Type 0 where
   pub sound : Sound (add_pattern letter year paid incurred)
   pub here : line ≡ line_at store letter
-  pub declared : is_some line.opening ≡ true
+  pub declared : is_some (declared_opening line) ≡ true
   pub rated : rates_of book.rates year ≡ Some rate
   pub turn : follows_last line year ≡ true

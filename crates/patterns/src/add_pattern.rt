@@ -78,7 +78,7 @@ fn ask_declared(
     ensures { Settled book (add_pattern letter year paid.now incurred.now) store.old result store.new }
 {
     let line = line_of(store, letter);
-    if line.opening.is_none() {
+    if line.declared_opening().is_none() {
         return refuse(book, Refusal::NotDeclared);
     }
     let Some(rate) = rate_of(book, year) else {
@@ -95,7 +95,7 @@ fn ask_declared(
 fn follows_last(line: Line, year: u64) -> bool
     ensures { result ≡ follows_last line year }
 {
-    line.patterns.is_none_or(|Patterns { last, .. }| {
+    line.kept_patterns().is_none_or(|Patterns { last, .. }| {
         year.checked_sub(last) == Some(1) && line.closed.is_none_or(|closed| closed == last)
     })
 }
@@ -140,13 +140,13 @@ fn keep(
 fn with_pattern(letter: u8, line: Line, year: u64) -> Line
     ensures { result ≡ with_pattern_of letter line year }
 {
-    let before = line.patterns.map_or(0, |patterns| patterns.count);
+    let before = line.patterns.count;
     let most = ages(letter) as u64;
     Line {
-        patterns: Some(Patterns {
+        patterns: Patterns {
             last: year,
             count: before.saturating_add(1).min(most),
-        }),
+        },
         ..line
     }
 }

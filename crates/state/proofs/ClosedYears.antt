@@ -11,6 +11,7 @@ use Rattle.model.specs.Letter.{covered}
 use Rattle.model.specs.Step.{with_closing}
 use Rattle.line_limits.specs.declared.line.Line.{Line}
 use Rattle.line_limits.specs.declared.totals.Totals.{Totals}
+use Rattle.line_limits.specs.Line.{kept_patterns}
 use Rattle.line_limits.specs.Totals.{totals_of, Within}
 use Rattle.state.specs.Store.{size}
 use Rattle.state.specs.Lines.{Limited, with_line_of, with_closing_of}
@@ -36,7 +37,7 @@ module _ (store : List ℕ) (letter year amount : ℕ) (old : Line) (totals : To
 
   closed_shown : line_of middle letter new ≡ with_closing (line_of store letter old) year amount (totals_of totals)
   unfolding line_of
-  closed_shown = rw (kept_of_same store middle letter (slots_same store letter (Some year) totals c n letter) old.patterns, totals_here store letter (Some year) totals c n w)
+  closed_shown = rw (kept_of_same store middle letter (slots_same store letter (Some year) totals c n letter) (kept_patterns old), totals_here store letter (Some year) totals c n w)
 
   -- the other letters are as they were
   elsewhere : (other : ℕ) → (other ≡ letter → ⊥) → lines_of later other ≡ lines_of store other

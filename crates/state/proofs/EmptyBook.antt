@@ -9,7 +9,7 @@ use lib.ListN.{get_or, replicate, get_or-replicate}
 use Rattle.model.specs.Kind.{is_year}
 use Rattle.model.specs.Letter.{covered}
 use Rattle.model.specs.Book as model
-use Rattle.line_limits.specs.Limits.{line_in}
+use Rattle.line_limits.specs.Limits.{limited_of, line_in}
 use Rattle.state.specs.Rates.{rates_of}
 use Rattle.state.specs.Months.{is_date, month_start, register_of}
 use Rattle.state.specs.Store.{piece, size}
@@ -27,10 +27,10 @@ no_rate year true e = rw (e, get_or-replicate {A = ℕ} 113 (year - 1987) 65535 
 no_rate year false e = rw e
 
 cleared : (letter at : ℕ) → line_in letter (piece empty_store at 6) ≡ no_line
-unfolding line_in
+unfolding limited_of
 cleared letter at =
     let cell : (j : ℕ) → j < 6 → get_or (piece empty_store at 6) j 0 ≡ 0 = λ j lt. pieces.cell empty_store at 6 j lt ∙ zero_cell size (at + j) in
-    rw (cell 0 (omega arith), cell 3 (omega arith), cell 4 (omega arith))
+    rw (cell 0 (omega arith), cell 1 (omega arith), cell 2 (omega arith), cell 3 (omega arith), cell 4 (omega arith))
 
 line_cleared : (letter : ℕ) (t : Bool) → covered letter ≡ t → line_at empty_store letter ≡ no_line
 unfolding line_at

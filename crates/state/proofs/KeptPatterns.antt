@@ -1,6 +1,5 @@
 -- What an accepted pattern leaves in the store: its slot and its line, one after the other.
 -- Assumes nothing.
-use Rattle.std.specs.Prelude.{Option, None, Some}
 use mathlib.Core.Bool.{true}
 use mathlib.Core.List.{List, [], ◌∷◌, ◌++◌, append_assoc}
 use mathlib.Core.Path.{◌≡◌, refl, sym, ap, ◌∙◌}
@@ -18,17 +17,16 @@ use Rattle.model.specs.Composite.{composite}
 use Rattle.model.specs.Step.{kept_pattern, with_pattern}
 use Rattle.model.proofs.Ages.{ages_small}
 use Rattle.line_limits.specs.declared.line.Line.{Line}
-use Rattle.line_limits.specs.declared.line.Patterns.{Patterns}
 use Rattle.state.specs.Store.{size}
-use Rattle.state.specs.Lines.{Limited, count_of, with_line_of, with_pattern_of}
+use Rattle.state.specs.Lines.{Limited, with_line_of, with_pattern_of}
 use Rattle.state.specs.Patterns.{pattern_at, kept_back, slot_of, with_slot_of}
 use Rattle.state.specs.Months.{register_of}
-use Rattle.state.specs.View.{kept_of, line_of, lines_of}
+use Rattle.state.specs.View.{line_of, lines_of}
 use Rattle.state.proofs.FactorLimits.{factors_limited, composite_limited}
 use Rattle.state.proofs.Limited.{pattern_limited}
 use Rattle.state.proofs.LinePieces as line
 use Rattle.state.proofs.SlotPieces.{slot_here, other_letters, earlier_years, lines_same, totals_same, register_same, slot_long}
-use Rattle.state.proofs.Views.{line_aside, line_same, shown_same, put_shown}
+use Rattle.state.proofs.Views.{kept_shown, line_aside, line_same, shown_same, put_shown}
 
 -- n factors, zeros up to ten, and a composite
 module _ (factors : List ℕ) (n composite : ℕ) (l : length factors ≡ n) (few : n ≤ 10) where
@@ -100,7 +98,7 @@ module _ (store : List ℕ) (letter year rate : ℕ) (pay : List ℕ) (c : cover
   all_kept zero k last le next = rw (min-zero (k + 1))
   all_kept (suc m) k last le next = rw (add-one k, suc-min-suc k m) (λ i. pattern_stored i ∷ tail_kept m k last (omega arith) next i)
 
-  module _ (old : Line) (l : Limited letter old) (y : is_year year ≡ true) (next : (p : Patterns) → old.patterns ≡ Some p → year ≡ p.last + 1) where
+  module _ (old : Line) (l : Limited letter old) (y : is_year year ≡ true) (next : 0 < old.patterns.count → year ≡ old.patterns.last + 1) where
     abbrev new : Line
     new = with_pattern_of letter old year
 
@@ -110,14 +108,9 @@ module _ (store : List ℕ) (letter year rate : ℕ) (pay : List ℕ) (c : cover
     long : length later ≡ size
     long = slot_long store letter year cells c n eleven_cells
 
-    kept_by : (patterns : Option Patterns) → old.patterns ≡ patterns → kept_back later letter (min (count_of patterns + 1) (ages letter)) year ≡ take (ages letter) (kept_pattern letter year rate pay ∷ kept_of store letter patterns)
-    unfolding kept_back
-    kept_by None e = all_kept (ages letter) 0 0 (ages_small letter) (λ lt. absurd (omega arith))
-    kept_by (Some p) e = all_kept (ages letter) p.count p.last (ages_small letter) (λ lt. next p e)
-
     pattern_kept : line_of later letter new ≡ with_pattern letter (line_of store letter old) (kept_pattern letter year rate pay)
     unfolding line_of
-    pattern_kept = rw (kept_by old.patterns refl, totals_same store letter year cells c n eleven_cells letter old.closed)
+    pattern_kept = rw (kept_shown later letter new, kept_shown store letter old, all_kept (ages letter) old.patterns.count old.patterns.last (ages_small letter) next, totals_same store letter year cells c n eleven_cells letter old.closed)
 
     -- the other letters are as they were
     elsewhere : (other : ℕ) → (other ≡ letter → ⊥) → lines_of last_store other ≡ lines_of store other

@@ -10,13 +10,14 @@ use Rattle.model.specs.Book.{find}
 use Rattle.model.proofs.Ages.{ages_small}
 use Rattle.line_limits.specs.declared.line.Line.{Line}
 use Rattle.line_limits.specs.declared.line.Patterns.{Patterns}
+use Rattle.line_limits.specs.Line.{kept_patterns}
 use Rattle.state.specs.Lines.{Limited}
 use Rattle.state.specs.Patterns.{pattern_at, kept_back}
 use Rattle.state.proofs.Limited.{kept}
 use Rattle.state.proofs.RatePlaces.{first_year}
 
 -- the years of kept patterns go no further back than to year 0
-module _ (letter : ℕ) (line : Line) (l : Limited letter line) (p : Patterns) (e : line.patterns ≡ Some p) where
+module _ (letter : ℕ) (line : Line) (l : Limited letter line) (p : Patterns) (e : kept_patterns line ≡ Some p) where
   pub kept_year : 1987 ≤ p.last
   kept_year = first_year p.last (kept letter line l p e).0
 

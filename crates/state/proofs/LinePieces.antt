@@ -4,7 +4,7 @@ use Rattle.std.specs.Prelude.{Option}
 use mathlib.Core.Bool.{Bool, true, false}
 use mathlib.Core.List.{List}
 use mathlib.Core.Logic.{⊎_elim}
-use mathlib.Core.Path.{◌≡◌, refl}
+use mathlib.Core.Path.{◌≡◌, refl, ◌∙◌}
 use Prim.Native.Nat.{ℕ, ◌+◌, ◌*◌, ◌≤◌, ◌<◌}
 use native.Mathlib.Omega.{arith}
 use lib.ListN.{length}
@@ -15,6 +15,7 @@ use Rattle.state.specs.Lines.{place_of, line_start, cells_of, Limited, line_at, 
 use Rattle.state.specs.Patterns.{slot_start, slot_at}
 use Rattle.state.specs.Totals.{totals_at}
 use Rattle.state.specs.Months.{register_of}
+use Rattle.state.proofs.Limited.{cells_read}
 use Rattle.state.proofs.Places.{covered_place, places_differ}
 use Rattle.state.proofs.Regions.{totals_past, register_past}
 use Rattle.state.proofs.Pieces as pieces
@@ -29,7 +30,7 @@ module _ (store : List ℕ) (letter : ℕ) (line : Line) (c : covered letter ≡
 
   pub line_here : Limited letter line → line_at later letter ≡ line
   unfolding line_at
-  line_here l = rw (c, pieces.here store (cells_of line) (line_start letter) room 6 refl) l
+  line_here l = rw (c, pieces.here store (cells_of line) (line_start letter) room 6 refl) (cells_read letter line ∙ l)
 
   cells_same : (place : ℕ) → (place ≡ place_of letter → ⊥) → piece later (place * 6) 6 ≡ piece store (place * 6) 6
   cells_same place differ =

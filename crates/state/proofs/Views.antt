@@ -1,11 +1,13 @@
 -- What the view shows after a write.
 -- Assumes nothing.
-use Rattle.std.specs.Prelude.{Option, None, Some}
-use mathlib.Core.Bool.{true}
+use Rattle.std.specs.Prelude.{if◌then◌else◌, Option, None, Some, is_some}
+use mathlib.Core.Bool.{Bool, true, false}
 use mathlib.Core.List.{List}
 use mathlib.Core.Path.{◌≡◌, refl, ap, ◌∙◌, fun_ext}
 use Prim.Native.Nat.{ℕ, zero, suc, ◌-◌, ◌≤◌}
-use borrow.Author.Tests.{eqb-false}
+use native.Mathlib.Omega.{arith}
+use borrow.Author.Tests.{eqb-false, lt-ltb}
+use lib.Dec.{ltb}
 use lib.ListN.{length}
 use Rattle.model.specs.Basics.{put}
 use Rattle.model.specs.Kind.{is_year}
@@ -13,6 +15,7 @@ use Rattle.model.specs.Letter.{covered}
 use Rattle.model.proofs.Lists.{put_all}
 use Rattle.line_limits.specs.declared.line.Line.{Line}
 use Rattle.line_limits.specs.declared.line.Patterns.{Patterns}
+use Rattle.line_limits.specs.Line.{kept_patterns}
 use Rattle.state.specs.Store.{size}
 use Rattle.state.specs.Hints.{with_hint_of}
 use Rattle.state.specs.Lines.{Limited, line_at, with_line_of}
@@ -34,6 +37,15 @@ pub kept_of_same : (store later : List ℕ) (letter : ℕ) → ((year : ℕ) →
 kept_of_same store later letter h None = refl
 kept_of_same store later letter h (Some p) = kept_same store later letter h p.count p.last
 
+-- the patterns that a line keeps are as many as it counts
+count_shown : (store : List ℕ) (letter n last : ℕ) → kept_of store letter (if ltb 0 n then Some (record { last = last; count = n }) else None) ≡ kept_back store letter n last
+unfolding kept_back
+count_shown store letter zero last = refl
+count_shown store letter (suc n) last = rw (lt-ltb 0 (suc n) (omega arith))
+
+pub kept_shown : (store : List ℕ) (letter : ℕ) (line : Line) → kept_of store letter (kept_patterns line) ≡ kept_back store letter line.patterns.count line.patterns.last
+kept_shown store letter line = count_shown store letter line.patterns.count line.patterns.last
+
 -- of a line the view shows its cells, its slots and its totals
 pub record Same (store later : List ℕ) (letter : ℕ) : Type 0 where
   pub slots : (year : ℕ) → slot_at later letter year ≡ slot_at store letter year
@@ -41,7 +53,7 @@ pub record Same (store later : List ℕ) (letter : ℕ) : Type 0 where
 
 pub line_same : (store later : List ℕ) (letter : ℕ) → Same store later letter → (line : Line) → line_of later letter line ≡ line_of store letter line
 unfolding line_of
-line_same store later letter s line = rw (kept_of_same store later letter s.slots line.patterns, s.totals line.closed)
+line_same store later letter s line = rw (kept_of_same store later letter s.slots (kept_patterns line), s.totals line.closed)
 
 pub shown_same : (store later : List ℕ) (letter : ℕ) → line_at later letter ≡ line_at store letter → Same store later letter → lines_of later letter ≡ lines_of store letter
 unfolding lines_of
@@ -72,6 +84,15 @@ hint_unseen store year factor y n = fun_ext (λ letter. shown_same store (with_h
 pub month_unseen : (store : List ℕ) (year month rate : ℕ) → is_date year month ≡ true → length store ≡ size → rate ≤ 2500 → lines_of (with_month_of store year month rate) ≡ lines_of store
 month_unseen store year month rate d n le =
     fun_ext (λ letter. shown_same store (with_month_of store year month rate) letter (kept_month.lines_same store year month rate d n le letter) (record { slots = kept_month.slots_same store year month rate d n le letter; totals = kept_month.totals_same store year month rate d n le letter }))
+
+-- is the line declared?
+declared_by : (t : Bool) (n : ℕ) → is_some (if t then Some n else None) ≡ t
+declared_by true n = refl
+declared_by false n = refl
+
+pub declared_is : (store : List ℕ) (letter : ℕ) (line : Line) → line ≡ line_at store letter → is_some (lines_of store letter).opening ≡ line.declared
+unfolding lines_of line_of
+declared_is store letter line here = rw (← here) (declared_by line.declared line.opening)
 
 pub line_is : (store : List ℕ) (letter : ℕ) (line : Line) → line ≡ line_at store letter → lines_of store letter ≡ line_of store letter line
 unfolding lines_of

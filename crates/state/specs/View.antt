@@ -5,6 +5,7 @@ use Rattle.model.specs.Book as model
 use Rattle.state.specs.declared.book.Book.{Book}
 use Rattle.line_limits.specs.declared.line.Line.{Line}
 use Rattle.line_limits.specs.declared.line.Patterns.{Patterns}
+use Rattle.line_limits.specs.Line.{declared_opening, kept_patterns}
 use Rattle.line_limits.specs.Totals.{totals_of}
 use Rattle.state.specs.Store.{size}
 use Rattle.state.specs.Rates.{rates_of}
@@ -26,9 +27,9 @@ kept_of store letter (Some patterns) = kept_back store letter patterns.count pat
 unfoldable pub line_of : List ℕ → ℕ → Line → model.Line
 line_of store letter line =
     record {
-      opening = line.opening;
+      opening = declared_opening line;
       closed = closed_of line.closed line.closing;
-      kept = kept_of store letter line.patterns;
+      kept = kept_of store letter (kept_patterns line);
       totals = totals_of (totals_at store letter line.closed);
     }
 

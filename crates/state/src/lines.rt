@@ -6,7 +6,7 @@ use crate::cells::{line_start, write};
 use crate::store::{LINE_CELLS, Store};
 use letters::covered::Covered;
 use line_limits::limits::line_in;
-use line_limits::line::{Line, Patterns};
+use line_limits::line::Line;
 
 // A letter's line. A letter that is not covered has an undeclared one.
 #[tactic(auto, unfolding(crate::specs::Lines::line_at, crate::specs::Store::piece))]
@@ -31,17 +31,16 @@ pub fn keep_line(store: &mut Store, letter: u8, line: Line)
     }
 }
 
-// The cells of a line: zeros for what it has not.
+// The cells of a line: 0 where no year is closed.
 fn cells_of(line: Line) -> [u64; LINE_CELLS]
     ensures { result ≡ cells_of line }
 {
-    let patterns = line.patterns.unwrap_or(Patterns { last: 0, count: 0 });
     [
-        u64::from(line.opening.is_some()),
-        line.opening.unwrap_or(0),
+        u64::from(line.declared),
+        line.opening,
         line.closed.unwrap_or(0),
         line.closing,
-        patterns.last,
-        patterns.count,
+        line.patterns.last,
+        line.patterns.count,
     ]
 }

@@ -10,6 +10,7 @@ use Rattle.model.specs.Question.{book_questions, first_no}
 use Rattle.model.specs.Step.{as_numbers, accept}
 use Rattle.letters.specs.Covered.{covered_letter}
 use Rattle.line_limits.specs.declared.line.Line.{Line}
+use Rattle.line_limits.specs.Line.{declared_opening}
 use Rattle.line_limits.specs.declared.totals.Totals.{Totals}
 use Rattle.refusal.specs.declared.Refusal.TheVariants as refusal
 use Rattle.state.specs.declared.book.Book.{Book}
@@ -38,21 +39,24 @@ module _ (book : Book) (letter : ℕ) (store : List ℕ) (k : ℕ) (ek : k ≡ l
   here : line ≡ line_at store letter
   here = rw (← ek) ei
 
-  first_is : (t : Bool) → is_some line.opening ≡ t → first_no (book_questions (view book store) (totals letter)) ≡ (if t then None else Some 8)
+  first_is : (t : Bool) → is_some (declared_opening line) ≡ t → first_no (book_questions (view book store) (totals letter)) ≡ (if t then None else Some 8)
   unfolding book_questions line_of
   first_is true e = rw (line_is store letter line here, e)
   first_is false e = rw (line_is store letter line here, e)
 
-  module _ (missing : Bool) (em : is_some line.opening ≡ not missing) where
+  module _ (o : Option ℕ) (eo : o ≡ declared_opening line) (missing : Bool) (em : is_some o ≡ not missing) where
+    missing_is : is_some (declared_opening line) ≡ not missing
+    missing_is = ap (λ (x : Option ℕ). is_some x) (sym eo) ∙ em
+
     pub undeclared : missing ≡ true → r ≡ refused_of book refusal.NotDeclared → Settled book (totals letter) store r store
-    undeclared m er = refused book refusal.NotDeclared (first_no (book_questions (view book store) (totals letter))) (totals letter) store r (first_is false (em ∙ ap not m)) er
+    undeclared m er = refused book refusal.NotDeclared (first_no (book_questions (view book store) (totals letter))) (totals letter) store r (first_is false (missing_is ∙ ap not m)) er
 
     -- the figures, as code has them
     pub summed : missing ≡ false → (figures : Totals) → figures ≡ totals_at store k line.closed
         → r ≡ accepted_of book (answer.Sum k figures) → Settled book (totals letter) store r store
     unfolding accept book_settled store_settled line_of
     summed m figures ef er =
-        rw (first_is true (em ∙ ap not m), er, ef, ek)
+        rw (first_is true (missing_is ∙ ap not m), er, ef, ek)
         record {
           outcome = rw (line_is store letter line here);
           own = refl;

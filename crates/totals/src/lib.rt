@@ -31,7 +31,7 @@ fn ask_declared(book: Book, store: &Store, letter: Covered) -> Outcome
 {
     let letter = letter.letter();
     let line = line_of(store, letter);
-    if line.opening.is_none() {
+    if line.declared_opening().is_none() {
         return refuse(book, Refusal::NotDeclared);
     }
     let totals = totals_of(store, letter, line.closed);
