@@ -8,7 +8,7 @@ use Prim.Native.Nat.{ℕ}
 use native.Mathlib.Omega.{arith}
 use borrow.Author.Tests.{leb-true}
 use lib.ListN.{length}
-use Rattle.model.specs.Kind.{is_rate, is_register_year, is_month}
+use Rattle.model.specs.Kind.{is_rate}
 use Rattle.model.specs.Call.{register_month}
 use Rattle.model.specs.Question.{is_within_limits, book_questions, first_no}
 use Rattle.model.specs.Step.{as_numbers, accept}
@@ -19,9 +19,6 @@ use Rattle.state.specs.declared.book.Book.{Book}
 use Rattle.state.specs.Store.{size}
 use Rattle.state.specs.Months.{is_date, register_of, with_month_of}
 use Rattle.state.specs.View.{view}
-use Rattle.register.specs.declared.date.Date.{Date}
-use Rattle.register.specs.Date.{date_of}
-use Rattle.register.proofs.Dates.{found, none_found}
 use Rattle.state.proofs.MonthPieces.{register_put}
 use Rattle.state.proofs.Views.{month_unseen}
 use Rattle.ledger.specs.declared.answer.Answer.TheVariants as answer
@@ -31,15 +28,18 @@ use Rattle.ledger.specs.Does.{book_settled, store_settled, Settled, Does}
 use Rattle.ledger.proofs.Settling.{refused, limits_refused, goes_on}
 
 -- question 6
-module _ (year month n : ℕ) (x : Option ℕ) (ex : x ≡ within is_rate n) (d : Option Date) (ed : d ≡ date_of year month) (book : Book) (store : List ℕ) (r : Outcome) where
-  pub month_on : (v : ℕ) → x ≡ Some v → (date : Date) → d ≡ Some date → (later : List ℕ) → Settled book (register_month date.year date.month v) store r later → Does book (as_numbers (register_month year month n)) store r later
-  month_on v ev date e later h =
-      let t = taken is_rate n v (sym ex ∙ ev) in
-      let f = found year month date (sym ed ∙ e) in
-      goes_on book (register_month year month n) store r (record { letter = refl; lengths = refl; limits = rw (f.0, t.0) }) later (rw (t.1, f.1) at h)
+module _ (year month n : ℕ) (x : Option ℕ) (ex : x ≡ within is_rate n) (book : Book) (store : List ℕ) (r : Outcome) where
+  module _ (t : Bool) (et : t ≡ is_date year month) where
+    pub month_on : (v : ℕ) → x ≡ Some v → t ≡ true → (later : List ℕ) → Settled book (register_month year month v) store r later → Does book (as_numbers (register_month year month n)) store r later
+    month_on v ev e later h =
+        let d : is_date year month ≡ true = sym et ∙ e in
+        let k = taken is_rate n v (sym ex ∙ ev) in
+        goes_on book (register_month year month n) store r (record { letter = refl; lengths = refl; limits = rw (d, k.0) }) later (rw k.1 at h)
 
-  pub date_refused : d ≡ None → r ≡ refused_of book refusal.OutsideLimits → Does book (as_numbers (register_month year month n)) store r store
-  date_refused e er = limits_refused book (register_month year month n) store r true refl refl true refl refl (is_within_limits (register_month year month n)) refl (rw (none_found year month (sym ed ∙ e))) er
+    pub date_refused : t ≡ false → r ≡ refused_of book refusal.OutsideLimits → Does book (as_numbers (register_month year month n)) store r store
+    date_refused e er =
+        let d : is_date year month ≡ false = sym et ∙ e in
+        limits_refused book (register_month year month n) store r true refl refl true refl refl (is_within_limits (register_month year month n)) refl (rw d) er
 
   pub rate_refused : x ≡ None → r ≡ refused_of book refusal.OutsideLimits → Does book (as_numbers (register_month year month n)) store r store
   rate_refused eo er = limits_refused book (register_month year month n) store r true refl refl true refl refl (is_within_limits (register_month year month n)) refl (and_false (is_date year month) (is_rate n) (outside is_rate n (sym ex ∙ eo))) er
@@ -48,11 +48,8 @@ module _ (year month n : ℕ) (x : Option ℕ) (ex : x ≡ within is_rate n) (d 
       and_false true b e = e
       and_false false b e = refl
 
--- question 7, of a date whose year and month are y and m
-module _ (book : Book) (year month n : ℕ) (store : List ℕ) (y m : ℕ) (ey : y ≡ year) (em : m ≡ month) (before : Option ℕ) (eb : before ≡ register_of store y m) (r : Outcome) where
-  there : before ≡ register_of store year month
-  there = rw (← ey, ← em) eb
-
+-- question 7
+module _ (book : Book) (year month n : ℕ) (store : List ℕ) (before : Option ℕ) (eb : before ≡ register_of store year month) (r : Outcome) where
   first_is : (o : Option ℕ) → register_of store year month ≡ o → first_no (book_questions (view book store) (register_month year month n)) ≡ (if is_some o then Some 7 else None)
   unfolding book_questions
   first_is None e = rw e
@@ -60,13 +57,12 @@ module _ (book : Book) (year month n : ℕ) (store : List ℕ) (y m : ℕ) (ey :
 
   pub month_given : (old : ℕ) → before ≡ Some old → r ≡ refused_of book refusal.AlreadyGiven → Settled book (register_month year month n) store r store
   month_given old e er =
-      refused book refusal.AlreadyGiven (first_no (book_questions (view book store) (register_month year month n))) (register_month year month n) store r (first_is (Some old) (sym there ∙ e)) er
+      refused book refusal.AlreadyGiven (first_no (book_questions (view book store) (register_month year month n))) (register_month year month n) store r (first_is (Some old) (sym eb ∙ e)) er
 
-  pub month_registered : is_register_year y ≡ true → is_month m ≡ true → before ≡ None → length store ≡ size → (later : List ℕ) → later ≡ with_month_of store y m n → (k : ℕ) → k ≡ n → is_rate k ≡ true → r ≡ accepted_of book (answer.MidTerm y m k) → Settled book (register_month year month n) store r later
+  pub month_registered : is_date year month ≡ true → before ≡ None → length store ≡ size → (later : List ℕ) → later ≡ with_month_of store year month n → (k : ℕ) → k ≡ n → is_rate k ≡ true → r ≡ accepted_of book (answer.MidTerm year month k) → Settled book (register_month year month n) store r later
   unfolding accept book_settled store_settled
-  month_registered iy im e cells later el k ek small er =
-      let d : is_date year month ≡ true = rw (← ey, ← em, iy, im) refl in
-      rw (first_is None (sym there ∙ e), er, el, ek, ey, em)
+  month_registered d e cells later el k ek small er =
+      rw (first_is None (sym eb ∙ e), er, el, ek)
       record {
         outcome = rw (register_put store year month n d cells (omega (arith, ek, leb-true k 2500 small)), month_unseen store year month n d cells (omega (arith, ek, leb-true k 2500 small)));
         own = refl;
