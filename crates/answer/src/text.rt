@@ -1,7 +1,7 @@
 // Document 01, "A run of the book's program": the text of each answer, and of DONE, put into a lent buffer.
 #![tactic(auto, using(crate::proofs::Texts::joined, crate::proofs::Texts::decimal_is, crate::proofs::Texts::signed_is, crate::proofs::Texts::fact_line, crate::proofs::Texts::put_where_room), unfolding(model::specs::Answer::text, model::specs::Answer::done_text))]
 
-ghost use Rattle.std.specs.Prelude.{◌∷◌, ◌++◌, map, ◌≡◌, ◌+◌, ◌*◌, ◌≤◌, length};
+ghost use Rattle.std.specs.Prelude.{true, ◌∷◌, ◌++◌, map, ◌≡◌, ◌+◌, ◌*◌, ◌≤◌, length};
 ghost use Rattle.model.specs.Answer.{declared, rated, tax, summed, registered, refusal, line_of_text, text, done_text};
 ghost use Rattle.model.specs.Number.{decimal};
 ghost use Rattle.model.specs.Published.{published};
@@ -34,6 +34,9 @@ type Short = ArrayVec<u8, SHORT>;
 pub fn put_answer(out: &mut [u8], at: usize, answer: Answer, store: &Store) -> usize
     ensures { PutsWithRoom out.old at (text (answered answer store.now)) out.new result }
 {
+    if !has_room(out, at) {
+        return at;
+    }
     match answer {
         Answer::Line { letter, opening } => put_text(out, at, &declared(letter, opening)),
         Answer::Rate { year, rate } => put_text(out, at, &rated(year, rate)),
@@ -54,7 +57,11 @@ pub fn put_answer(out: &mut [u8], at: usize, answer: Answer, store: &Store) -> u
 pub fn put_done(out: &mut [u8], at: usize, accepted: u64, refused: u64) -> usize
     ensures { PutsWithRoom out.old at (done_text accepted refused) out.new result }
 {
-    put_text(out, at, &numbers(b"DONE", &[accepted, refused]))
+    if has_room(out, at) {
+        put_text(out, at, &numbers(b"DONE", &[accepted, refused]))
+    } else {
+        at
+    }
 }
 
 // Is there room for the longest text?
@@ -65,12 +72,10 @@ pub fn has_room(out: &[u8], at: usize) -> bool
 }
 
 fn put_text<const N: usize>(out: &mut [u8], at: usize, text: &ArrayVec<u8, N>) -> usize
-    requires { N ≤ 320 }
+    requires most { N ≤ 320 }
+    requires room { has_room out.old at ≡ true }
     ensures { PutsWithRoom out.old at text.now.items out.new result }
 {
-    if !has_room(out, at) {
-        return at;
-    }
     let next = at + text.len();
     out[at..next].copy_from_slice(text.as_slice());
     next
