@@ -3,7 +3,7 @@
 use Rattle.std.specs.Prelude.{if◌then◌else◌, Option, None, Some, is_some}
 use mathlib.Core.Bool.{Bool, true, false, ◌&&◌}
 use mathlib.Core.List.{List}
-use mathlib.Core.Path.{◌≡◌, refl, ap, ◌∙◌}
+use mathlib.Core.Path.{◌≡◌, refl, subst, ap, ◌∙◌}
 use Prim.Native.Nat.{ℕ, zero, suc, ◌<◌}
 use native.Mathlib.Omega.{arith}
 use borrow.Author.Tests.{eqb-true}
@@ -14,10 +14,9 @@ use Rattle.model.proofs.Lists.{and_left, and_right}
 use Rattle.line_limits.specs.declared.line.Line.{Line}
 use Rattle.line_limits.specs.declared.line.Patterns.{Patterns}
 use Rattle.line_limits.specs.Line.{kept_patterns}
-use Rattle.state.specs.Lines.{Limited}
 use Rattle.state.specs.Patterns.{kept_back}
 use Rattle.state.specs.View.{closed_of, kept_of, line_of}
-use Rattle.state.proofs.Limited.{taken, kept}
+use Rattle.state.proofs.Limited.{taken, keeps}
 use Rattle.closings.specs.CloseYear.{is_open, due_of, due}
 
 -- what the model finds
@@ -34,10 +33,12 @@ unfolding kept_back
 kept_same store letter zero last year closed closing some = absurd (omega arith)
 kept_same store letter (suc n) last year closed closing some = rw (open_same closed closing year)
 
-module _ (store : List ℕ) (letter : ℕ) (line : Line) (year : ℕ) (l : Limited letter line) where
+module _ (store : List ℕ) (letter : ℕ) (line : Line) (year : ℕ) where
   due_by : (patterns : Option Patterns) → kept_patterns line ≡ patterns → (model.is_year_of (latest (kept_of store letter patterns)) year && model.is_open (closed_of line.closed line.closing) year) ≡ is_some (due_of patterns line.closed year)
   due_by None e = refl
-  due_by (Some p) e = kept_same store letter p.count p.last year line.closed line.closing (kept letter line l p e).1 ∙ some_same (eqb year p.last && is_open line.closed year) p
+  due_by (Some p) e =
+      let k = keeps line p e in
+      kept_same store letter p.count p.last year line.closed line.closing (subst (λ (q : Patterns). 0 < q.count) k.1 k.0) ∙ some_same (eqb year p.last && is_open line.closed year) p
 
   pub due_is : (model.is_year_of (latest (line_of store letter line).kept) year && model.is_open (line_of store letter line).closed year) ≡ is_some (due line year)
   unfolding line_of due

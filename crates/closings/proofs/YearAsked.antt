@@ -60,7 +60,7 @@ module _ (book : Book) (store : List ℕ) (letter year : ℕ) (paid : List ℤ) 
   first_is : first_no (book_questions (view book store) call)
       ≡ (if is_some (declared_opening line) then (if is_some (due line year) then (if have_kept (line_of store letter line).kept year 0 (take (ages letter) (rows_of paid unpaid tabular)) then None else Some 13) else Some 10) else Some 8)
   unfolding book_questions line_of
-  first_is = rw (line_is store letter line here, due_is store letter line year (line_limited store letter line here))
+  first_is = rw (line_is store letter line here, due_is store letter line year)
 
   patterns_are : (p : Patterns) → due line year ≡ Some p → have_kept (line_of store letter line).kept year 0 (take (ages letter) (rows_of paid unpaid tabular)) ≡ have_patterns p.count (ages letter) unpaid tabular
   patterns_are p is_due =

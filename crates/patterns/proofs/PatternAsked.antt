@@ -30,7 +30,6 @@ use Rattle.refusal.specs.Number.{number_of, refusal_of}
 use Rattle.ledger.specs.Does.{Settled}
 use Rattle.patterns.specs.AddPattern.{follows_last, Turned}
 use Rattle.ledger.proofs.Settling.{refused}
-use Rattle.state.proofs.Limited.{line_limited}
 use Rattle.state.proofs.Views.{line_is}
 use Rattle.patterns.proofs.Turns.{follows_is}
 
@@ -48,7 +47,7 @@ module _ (book : Book) (store : List ℕ) (letter year : ℕ) (paid incurred : L
   first_is : first_no (book_questions (view book store) call)
       ≡ (if is_some (declared_opening line) then (if is_some (rates_of book.rates year) then (if follows_last line year then (if has_incurred call then (if climbs call then None else Some 12) else Some 11) else Some 10) else Some 9) else Some 8)
   unfolding book_questions line_of
-  first_is = rw (line_is store letter line here, follows_is store letter line year (line_limited store letter line here))
+  first_is = rw (line_is store letter line here, follows_is store letter line year)
 
   missing_is : (o : Option ℕ) → o ≡ declared_opening line → (missing : Bool) → is_some o ≡ not missing → is_some (declared_opening line) ≡ not missing
   missing_is o eo missing em = ap (λ (x : Option ℕ). is_some x) (sym eo) ∙ em

@@ -3,7 +3,7 @@
 use Rattle.std.specs.Prelude.{Option, None, Some}
 use mathlib.Core.Bool.{true, ◌&&◌}
 use mathlib.Core.List.{List}
-use mathlib.Core.Path.{◌≡◌, refl}
+use mathlib.Core.Path.{◌≡◌, refl, subst}
 use Prim.Native.Nat.{ℕ, zero, suc, ◌+◌, ◌<◌}
 use native.Mathlib.Omega.{arith}
 use native.Mathlib.Numerals.{add-one}
@@ -15,10 +15,9 @@ use Rattle.model.proofs.Lists.{and_left}
 use Rattle.line_limits.specs.declared.line.Line.{Line}
 use Rattle.line_limits.specs.declared.line.Patterns.{Patterns}
 use Rattle.line_limits.specs.Line.{kept_patterns}
-use Rattle.state.specs.Lines.{Limited}
 use Rattle.state.specs.Patterns.{kept_back}
 use Rattle.state.specs.View.{closed_of, kept_of, line_of}
-use Rattle.state.proofs.Limited.{kept}
+use Rattle.state.proofs.Limited.{keeps}
 use Rattle.patterns.specs.AddPattern.{last_is_closed, follows, follows_last}
 
 -- what the model finds
@@ -31,10 +30,12 @@ unfolding kept_back
 kept_same store letter zero last year closed closing some = absurd (omega arith)
 kept_same store letter (suc n) last year closed closing some = rw (add-one, closed_same closed closing last)
 
-module _ (store : List ℕ) (letter : ℕ) (line : Line) (year : ℕ) (l : Limited letter line) where
+module _ (store : List ℕ) (letter : ℕ) (line : Line) (year : ℕ) where
   follows_by : (patterns : Option Patterns) → kept_patterns line ≡ patterns → model.follows (latest (kept_of store letter patterns)) (closed_of line.closed line.closing) year ≡ follows patterns line.closed year
   follows_by None e = refl
-  follows_by (Some p) e = kept_same store letter p.count p.last year line.closed line.closing (kept letter line l p e).1
+  follows_by (Some p) e =
+      let k = keeps line p e in
+      kept_same store letter p.count p.last year line.closed line.closing (subst (λ (q : Patterns). 0 < q.count) k.1 k.0)
 
   pub follows_is : model.follows (latest (line_of store letter line).kept) (line_of store letter line).closed year ≡ follows_last line year
   unfolding line_of follows_last
