@@ -1,6 +1,8 @@
 -- A piece, part after part; piece after piece; and the end of input: what is handed to the writes.
 -- Assumes nothing.
-use Rattle.std.proofs.Common.{List, ◌++◌, ◌≡◌, ap, ◌∙◌, ℕ, ◌≤◌, arith, length, take}
+use Rattle.std.proofs.Common.{List, ◌++◌, ◌≡◌, ap, ◌∙◌, ℕ, ◌+◌, ◌≤◌, ◌<◌, ⊎_elim, eq-zero-or-pos, arith, length, length-append, take}
+use Rattle.std.proofs.Math.Seq.{take-append-add}
+use Rattle.std.specs.Prelude.{Result, Ok, Err, OnErr}
 use Rattle.model.specs.Book.{Book}
 use Rattle.model.specs.Answer.{done_text}
 use Rattle.model.specs.Run as model
@@ -14,7 +16,7 @@ use Rattle.pieces.proofs.Joining.{front_length}
 use Rattle.pieces.proofs.Ran.{all_written_lem}
 use Rattle.pieces.proofs.Taken.{taken_few, taken_some}
 use Rattle.pieces.proofs.Written.{text_put, put_inside, leads_on, feed_leads}
-use Rattle.console.specs.Take.{Takes, TakesPart, Led}
+use Rattle.console.specs.Take.{Takes, TakesPart, TakesSome, Led}
 use Rattle.console.specs.Write.{last_answer, last_counts}
 
 -- the text of a way is what its bytes are answered
@@ -44,6 +46,31 @@ module _ (run : Run) (store piece out : List ℕ) (r : Fed) (later_store later_o
         few = taken_few _ _ _ _ _ _ _ f;
         some = taken_some _ _ _ _ _ _ _ f (omega (arith, size));
         takes = leads_text _ _ _ _ _ _ (feed_leads _ _ _ _ _ _ _ f);
+      }
+
+  -- and its write failed
+  pub part_failed : length out ≡ 65536 → TakesSome run store piece later_store
+  part_failed size =
+      let p = takes_part size in
+      record { taken = r.taken; later = r.run; few = p.few; some = p.some; takes = p.takes }
+
+-- what is said where a write failed
+pub told_failed : {A E : Type 0} (r : Result A E) (P : Type 0) → P → OnErr r P
+told_failed (Ok x) P p = tt
+told_failed (Err e) P p = p
+
+-- the front of a piece is taken, and then a part of the rest whose write failed
+module _ (run : Run) (store piece front rest : List ℕ) (parts : piece ≡ front ++ rest) (last : Run) (lent : List ℕ) (t : Takes run store front last lent) where
+  pub take_failed : (later_store : List ℕ) → TakesSome last lent rest later_store → TakesSome run store piece later_store
+  take_failed later_store s =
+      let long : length piece ≡ length front + length rest = rw (parts, length-append) in
+      let bytes : take (length front + s.taken) piece ≡ front ++ take s.taken rest = rw (parts, take-append-add front rest s.taken) in
+      record {
+        taken = length front + s.taken;
+        later = s.later;
+        few = omega (arith, long, s.few);
+        some = λ (h : 0 < length piece). ⊎_elim (λ (z : length rest ≡ 0). omega (arith, long)) (λ (more : 0 < length rest). omega (arith, s.some more)) (eq-zero-or-pos (length rest));
+        takes = rw bytes (takes_on run store front last lent t (take s.taken rest) s.later later_store s.takes);
       }
 
 -- the end of input

@@ -19,6 +19,14 @@ pub record TakesPart (run : Run) (store piece : List ℕ) (fed : Fed) (later_sto
   pub some : 0 < length piece → 0 < fed.taken
   pub takes : Takes run store (take fed.taken piece) fed.run later_store
 
+-- a write failed: some first bytes of a piece are taken all the same, at least one, if there is one, and the store is then the one that they lead to
+pub record TakesSome (run : Run) (store piece later_store : List ℕ) : Type 0 where
+  pub taken : ℕ
+  pub later : Run
+  pub few : taken ≤ length piece
+  pub some : 0 < length piece → 0 < taken
+  pub takes : Takes run store (take taken piece) later later_store
+
 -- from the start of a run, some input leads here
 pub record Led (run : Run) (store : List ℕ) : Type 0 where
   pub begun : Run

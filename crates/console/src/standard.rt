@@ -2,7 +2,7 @@
 ghost use Rattle.std.specs.Prelude.{◌≡◌, true, Ok, [], ◌++◌, take, IfOk, OnOk, OnErr};
 ghost use Rattle.std.specs.Io.KnownBytes.{Consumes, Appends, IsAtEnd};
 ghost use Rattle.pieces.specs.Feed.{text_of};
-ghost use Rattle.console.specs.Take.{IsPrefixLen, Takes, TakesPart, Led};
+ghost use Rattle.console.specs.Take.{IsPrefixLen, Takes, TakesPart, TakesSome, Led};
 ghost use Rattle.console.specs.Through.{Through};
 ghost use Rattle.console.specs.Write.{last_answer, last_counts};
 
@@ -79,6 +79,7 @@ fn take_piece<W: Write>(
 ) -> io::Result<Run>
     ensures takes { IfOk result (λ later. Takes run store.old piece.now later store.new) }
     ensures written { OnOk result (Appends (W.contents output.old) (W.contents output.new) (text_of run store.old piece.now)) }
+    ensures failed { OnErr result (TakesSome run store.old piece.now store.new) }
 {
     let mut last = run;
     let mut rest = piece;
@@ -100,6 +101,7 @@ fn take_part<W: Write>(
 ) -> io::Result<Fed>
     ensures takes { IfOk result (λ fed. TakesPart run store.old piece.now fed store.new) }
     ensures written { IfOk result (λ fed. Appends (W.contents output.old) (W.contents output.new) (text_of run store.old (take fed.taken piece.now))) }
+    ensures failed { OnErr result (TakesSome run store.old piece.now store.new) }
 {
     let before = *store;
     let fed = feed(run, store, piece, out);
