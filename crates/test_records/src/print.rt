@@ -31,7 +31,8 @@ pub fn show<W: Write>(output: &mut W, line: &[u8]) -> io::Result<()> {
 }
 
 fn no<W: Write>(output: &mut W, refusal: Refusal) -> io::Result<()> {
-    write!(output, "NO {}", refusal.number())
+    write!(output, "NO")?;
+    number(output, refusal.number())
 }
 
 fn declare<W: Write>(output: &mut W, letter: u8, opening: u64) -> io::Result<()> {
@@ -39,7 +40,7 @@ fn declare<W: Write>(output: &mut W, letter: u8, opening: u64) -> io::Result<()>
         return no(output, Refusal::OutsideLimits);
     }
     word(output, "LINE", letter)?;
-    write!(output, " {opening}")
+    number(output, opening)
 }
 
 fn set_rate<W: Write>(output: &mut W, sizes: &[u64; 62]) -> io::Result<()> {
@@ -48,7 +49,8 @@ fn set_rate<W: Write>(output: &mut W, sizes: &[u64; 62]) -> io::Result<()> {
     if !(Year::contains(year) && Rate::all(months)) {
         return no(output, Refusal::OutsideLimits);
     }
-    write!(output, "RATE {year}")?;
+    write!(output, "RATE")?;
+    number(output, year)?;
     numbers(output, months)
 }
 
@@ -67,7 +69,8 @@ fn set_rate_from_register<W: Write>(output: &mut W, year: u64) -> io::Result<()>
     if !Year::contains(year) {
         return no(output, Refusal::OutsideLimits);
     }
-    write!(output, "RATE {year}")
+    write!(output, "RATE")?;
+    number(output, year)
 }
 
 // Lists of ten ages, with zeros past those of the line.
@@ -112,7 +115,7 @@ fn columns<W: Write>(
         return no(output, Refusal::OutsideLimits);
     }
     word(output, name, letter)?;
-    write!(output, " {}", sizes[2])?;
+    number(output, sizes[2])?;
     for place in 3..3 + count {
         column(output, minus, sizes, place, count, end)?;
         zeros(output, rest)?;
@@ -139,20 +142,25 @@ fn column<W: Write>(
 
 fn zeros<W: Write>(output: &mut W, n: usize) -> io::Result<()> {
     for _ in 0..n {
-        write!(output, " 0")?;
+        number(output, 0)?;
     }
     Ok(())
 }
 
 fn numbers<W: Write>(output: &mut W, list: &[u64]) -> io::Result<()> {
     for n in list {
-        write!(output, " {n}")?;
+        number(output, *n)?;
     }
     Ok(())
 }
 
 fn word<W: Write>(output: &mut W, name: &str, letter: u8) -> io::Result<()> {
     write!(output, "{name} {}", char::from(letter))
+}
+
+// A space and a number. (In one text with the word before it a buffer that is full would be written at another byte.)
+fn number<W: Write>(output: &mut W, n: u64) -> io::Result<()> {
+    write!(output, " {n}")
 }
 
 fn signed_number<W: Write>(output: &mut W, minus: bool, size: u64) -> io::Result<()> {
